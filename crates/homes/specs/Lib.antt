@@ -1,0 +1,4 @@
+pub mod Plains
+pub mod WriteOnces
+pub mod Allowances
+pub mod Sides

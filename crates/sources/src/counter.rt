@@ -1,0 +1,50 @@
+// A source that counts its stamps and ignores the tick.
+ghost use mathlib.Core.Path.{_≡_};
+ghost use Prim.Native.Nat.{_≤_};
+ghost use Rattle.interfaces.specs.Stamps.{top, Marked, Drawn};
+ghost use Rattle.sources.specs.Given.{counted};
+use interfaces::source::Source;
+use interfaces::source::StampsSpent;
+
+#[derive(Drop)]
+pub struct Counter {
+    highest: u64,
+    ghost fits: { highest ≤ top },
+}
+
+impl Counter {
+    // A counter whose highest stamp so far is `highest`.
+    pub fn new(highest: u64) -> Counter
+        ensures { λ r. ⌜ r .highest ≡ highest ⌝ }
+    {
+        Counter { highest }
+    }
+}
+
+pub impl Source for Counter as CounterSource {
+    ghost highest = { λ s. s .highest };
+
+    ghost bounded = { λ s. s .fits };
+
+    fn highest(&self) -> u64 {
+        self.highest
+    }
+
+    fn mark(&mut self, _tick: u64) -> u64
+        ensures lawful { λ r. ⌜ Marked (now (self .entry) .highest) r (now (self .exit) .highest) ⌝ }
+        ensures exact { λ r. ⌜ r ≡ now (self .entry) .highest ⌝ }
+    {
+        self.highest
+    }
+
+    fn next(&mut self, _tick: u64) -> Result<u64, StampsSpent>
+        ensures lawful { λ r. ⌜ Drawn (now (self .entry) .highest) r (now (self .exit) .highest) ⌝ }
+        ensures exact { λ r. ⌜ r ≡ counted (now (self .entry) .highest) ⌝ }
+    {
+        if self.highest == u64::MAX {
+            return Err(StampsSpent);
+        }
+        self.highest += 1;
+        Ok(self.highest)
+    }
+}
