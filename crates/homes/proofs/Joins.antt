@@ -99,13 +99,14 @@ by-side P Q n k side e p first second =
     (λ le. second le (subst P (e ∙ cond-false _ _ _ (le-ltb k n le)) p))
     (cases-lt k n)
 
-pub read-beside : (a b a′ b′ : Meaning) (k : ℕ) (place place′ : List ℕ) (side : Side) (r r′ : Result Unit Fault) → k < length (beside a b .bodies) →
-    side ≡ side-of (length (a .bodies)) k → Read-at side a b place r place′ a′ b′ → r′ ≡ passed-up r →
+pub read-beside : (a b a′ b′ : Meaning) (k n : ℕ) (place place′ : List ℕ) (side : Side) (r p r′ : Result Unit Fault) → k < length (beside a b .bodies) →
+    n ≡ length (a .bodies) → side ≡ side-of n k → Read-at side a b place r place′ a′ b′ → p ≡ passed-up r → r′ ≡ p →
     (r′ ≡ answer (read-fault (beside a b) k)) × (place′ ≡ place-after (beside a b) k place) × (beside a′ b′ ≡ beside a b)
-read-beside a b a′ b′ k place place′ side r r′ l at did e =
+read-beside a b a′ b′ k count place place′ side r p r′ l counted at did up same =
     let n = length (a .bodies) in
+    let e = same ∙ up in
     let ok = ap answer (sym (readable (beside a b) k l)) in
-    by-side (λ s. Read-at s a b place r place′ a′ b′) _ n k side at did
+    by-side (λ s. Read-at s a b place r place′ a′ b′) _ n k side (at ∙ ap (λ m. side-of m k) counted) did
     (λ lt d. (
       e ∙ ap passed-up (d .0 ∙ ap answer (readable a k lt)) ∙ ok,
       d .1 ∙ place-read a k place lt ∙ sym (place-read (beside a b) k place l ∙ get-first a b k lt l),
@@ -118,12 +119,13 @@ read-beside a b a′ b′ k place place′ side r r′ l at did e =
       ap (λ m. beside m b′) (d .2) ∙ ap (beside a) (d .3),
     ))
 
-pub write-beside : (a b a′ b′ : Meaning) (k : ℕ) (body : List ℕ) (side : Side) (r r′ : Result Unit Fault) → k < length (beside a b .bodies) →
-    side ≡ side-of (length (a .bodies)) k → Written-at side a b body r a′ b′ → r′ ≡ passed-up r →
+pub write-beside : (a b a′ b′ : Meaning) (k n : ℕ) (body : List ℕ) (side : Side) (r p r′ : Result Unit Fault) → k < length (beside a b .bodies) →
+    n ≡ length (a .bodies) → side ≡ side-of n k → Written-at side a b body r a′ b′ → p ≡ passed-up r → r′ ≡ p →
     (r′ ≡ answer (write-fault (beside a b) k)) × (beside a′ b′ ≡ after-write (beside a b) k body)
-write-beside a b a′ b′ k body side r r′ l at did e =
+write-beside a b a′ b′ k count body side r p r′ l counted at did up same =
     let n = length (a .bodies) in
-    by-side (λ s. Written-at s a b body r a′ b′) _ n k side at did
+    let e = same ∙ up in
+    by-side (λ s. Written-at s a b body r a′ b′) _ n k side (at ∙ ap (λ m. side-of m k) counted) did
     (λ lt d. (
       e ∙ ap passed-up (d .0) ∙ passes (write-fault a k) ∙ ap answer (sym (fault-first a b k lt l)),
       ap (λ m. beside m b′) (d .1) ∙ ap (beside (after-write a k body)) (d .2) ∙ after-first a b k body lt l,

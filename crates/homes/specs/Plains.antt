@@ -1,8 +1,10 @@
 -- What lent bytes mean as a home: records of sixteen bytes one after another, each of which takes every write.
 use mathlib.Core.Path.{_≡_, ap, subst, _∙_}
+use mathlib.Core.Bool.{cond}
 use mathlib.Core.List.{List, [], _++_, map}
 use native.Mathlib.Omega.{arith}
 use Prim.Native.Nat.{ℕ, _+_, _-_, _*_, _/_, _<_, _≤_, min}
+use lib.Dec.{ltb}
 use lib.ListN.{length, getD, take, drop, length-take, length-drop}
 use Rattle.std.specs.declared.option.Option.the-variants.{None}
 use Rattle.std.specs.Iters.{counting}
@@ -24,6 +26,10 @@ bodies-of bytes = map (body-at bytes) (counting 0 (records-in (length bytes)))
 -- the bytes with others in the place of those from `start` to `end`
 abbrev pub overwritten : ℕ → ℕ → List ℕ → List ℕ → List ℕ
 overwritten start end bytes others = take start bytes ++ (others ++ drop (end - start) (drop start bytes))
+
+-- the bytes after a write of record k was asked for
+abbrev pub bytes-after : List ℕ → ℕ → List ℕ → List ℕ
+bytes-after bytes k body = cond (ltb k (length (bodies-of bytes))) (overwritten (k * 16) (k * 16 + 16) bytes body) bytes
 
 abbrev pub plain : List ℕ → Meaning
 plain bytes = record { bodies = bodies-of bytes; verdict = λ _ _. None }

@@ -14,8 +14,8 @@ pub struct Allowance<H> {
 
 impl<H: Home> Allowance<H> {
     pub fn new(below: H, writes: u32) -> Allowance<H>
-        ensures { λ r. ⌜ allowing (r .«writes_left») (H·Home .meaning (r .below)) ≡ allowing writes (H·Home .meaning below) ⌝ }
-        ensures { λ r. ⌜ r .«writes_left» ≡ writes ⌝ }
+        ensures means { λ r. ⌜ allowing (r .«writes_left») (H·Home .meaning (r .below)) ≡ allowing writes (H·Home .meaning below) ⌝ }
+        ensures left { λ r. ⌜ r .«writes_left» ≡ writes ⌝ }
     {
         Allowance {
             below,
@@ -48,11 +48,12 @@ pub impl<H: Home> Home for Allowance<H> as AllowanceHome {
 
     fn write(&mut self, number: u16, body: [u8; 16]) -> Result<(), Fault> {
         self.inside(number)?;
-        if self.writes_left == 0 {
+        let Allowance { below, writes_left } = self;
+        if *writes_left == 0 {
             return Err(Fault::new(Cause::AllowanceSpent, number));
         }
-        passed_up(self.below.write(number, body))?;
-        self.writes_left -= 1;
+        passed_up(below.write(number, body))?;
+        *writes_left -= 1;
         Ok(())
     }
 }

@@ -4,7 +4,9 @@ ghost use mathlib.Core.Path.{_≡_};
 ghost use lib.ListN.{length};
 ghost use Rattle.std.specs.shelf.Lists.{between};
 ghost use denote.Ref.{now as held, name};
-ghost use Rattle.homes.specs.Plains.{records-in, body-at, bodies-of, plain, plain-sound, overwritten};
+ghost use Rattle.interfaces.specs.Faults.{answer};
+ghost use Rattle.interfaces.specs.Homes.{read-fault, place-after, write-fault, after-write};
+ghost use Rattle.homes.specs.Plains.{records-in, body-at, bodies-of, plain, plain-sound, overwritten, bytes-after};
 use interfaces::fault::Fault;
 use interfaces::home::Home;
 
@@ -48,7 +50,8 @@ fn copy_in(bytes: &mut [u8], start: usize, body: &[u8; 16])
 
 impl<'a> Plain<'a> {
     pub fn new(bytes: &'a mut [u8]) -> Plain<'a>
-        ensures { λ r. ⌜ plain (now (r .bytes)) ≡ plain (now (bytes .entry)) ⌝ }
+        ensures bytes { λ r. ⌜ now (r .bytes) ≡ now (bytes .entry) ⌝ }
+        ensures lent { λ r. ⌜ name (r .bytes) ≡ name (bytes .entry) ⌝ }
     {
         Plain { bytes }
     }
@@ -71,13 +74,24 @@ pub impl<'a> Home for Plain<'a> as PlainHome {
         records_in(self.bytes.len())
     }
 
-    fn read(&mut self, number: u16, place: &mut [u8; 16]) -> Result<(), Fault> {
+    fn read(&mut self, number: u16, place: &mut [u8; 16]) -> Result<(), Fault>
+        ensures said { λ r. ⌜ r ≡ answer (read-fault (plain (now (now (self .entry) .bytes))) number) ⌝ }
+        ensures got { λ _. ⌜ now (place .exit) ≡ place-after (plain (now (now (self .entry) .bytes))) number (now (place .entry)) ⌝ }
+        ensures left { λ _. ⌜ plain (now (now (self .exit) .bytes)) ≡ plain (now (now (self .entry) .bytes)) ⌝ }
+        ensures bytes { λ _. ⌜ now (now (self .exit) .bytes) ≡ now (now (self .entry) .bytes) ⌝ }
+        ensures lent { λ _. ⌜ name (now (self .exit) .bytes) ≡ name (now (self .entry) .bytes) ⌝ }
+    {
         self.inside(number)?;
         *place = self.load(number);
         Ok(())
     }
 
-    fn write(&mut self, number: u16, body: [u8; 16]) -> Result<(), Fault> {
+    fn write(&mut self, number: u16, body: [u8; 16]) -> Result<(), Fault>
+        ensures said { λ r. ⌜ r ≡ answer (write-fault (plain (now (now (self .entry) .bytes))) number) ⌝ }
+        ensures left { λ _. ⌜ plain (now (now (self .exit) .bytes)) ≡ after-write (plain (now (now (self .entry) .bytes))) number body ⌝ }
+        ensures bytes { λ _. ⌜ now (now (self .exit) .bytes) ≡ bytes-after (now (now (self .entry) .bytes)) number body ⌝ }
+        ensures lent { λ _. ⌜ name (now (self .exit) .bytes) ≡ name (now (self .entry) .bytes) ⌝ }
+    {
         self.inside(number)?;
         copy_in(self.bytes, start_of(number), &body);
         Ok(())

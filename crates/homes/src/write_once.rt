@@ -17,6 +17,9 @@ pub struct WriteOnce {
 }
 
 impl WriteOnce {
+    // How many records it has.
+    pub const RECORDS: u16 = 64;
+
     pub fn new() -> WriteOnce
         ensures { λ r. ⌜ once (r .bodies) (r .used) ≡ once-new ⌝ }
     {
@@ -41,7 +44,7 @@ pub impl Home for WriteOnce as WriteOnceHome {
     ghost sound = { λ s. record { few = once-few (s .bodies) (s .all); sixteen = s .full } };
 
     fn count(&self) -> u16 {
-        64
+        WriteOnce::RECORDS
     }
 
     fn read(&mut self, number: u16, place: &mut [u8; 16]) -> Result<(), Fault> {

@@ -34,7 +34,7 @@ pub impl Source for Counter as CounterSource {
         ensures lawful { λ r. ⌜ Marked (now (self .entry) .highest) r (now (self .exit) .highest) ⌝ }
         ensures exact { λ r. ⌜ r ≡ now (self .entry) .highest ⌝ }
     {
-        self.highest
+        self.highest()
     }
 
     fn next(&mut self, _tick: u64) -> Result<u64, StampsSpent>

@@ -12,4 +12,6 @@ returns c =
       said = ap answer (sym (readable m (c .args .number) h));
       got = c .load .ensures ∙ sym (place-read m (c .args .number) (c .args .place .now) h ∙ getD-bodies _ _ _ h);
       left = refl;
+      bytes = refl;
+      lent = refl;
     }

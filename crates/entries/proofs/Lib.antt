@@ -1,0 +1,6 @@
+mod Leads
+mod Numbers
+mod Hexes
+mod Spells
+pub mod Exactly
+pub mod ReadsBack

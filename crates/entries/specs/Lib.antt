@@ -1,0 +1,4 @@
+pub mod Digits
+pub mod Entries
+pub mod Messages
+pub mod Spelling

@@ -1,0 +1,103 @@
+// A session: a home, and which of its records have been loaded.
+ghost use mathlib.Core.Path.{_≡_};
+ghost use mathlib.Core.Bool.{Bool, false};
+ghost use mathlib.Core.List.{List, [], _∷_, _++_};
+ghost use Prim.Native.Nat.{ℕ};
+ghost use lib.Dec.{eqb};
+ghost use lib.ListN.{length, getD, set, replicate};
+ghost use Rattle.std.specs.Orderings.{Decides};
+ghost use Rattle.interfaces.specs.Homes.{after-write};
+ghost use Rattle.entries.specs.Entries.{entry-of};
+ghost use Rattle.loading.specs.Loads.{Holds, load-reply, marks-loaded, reply-to, after-line, marks-after, row};
+use crate::reply::Reply;
+use entries::Entry;
+use entries::read_entry;
+use interfaces::home::Home;
+
+// Whether two bodies have the same bytes.
+fn same_body(one: &[u8; 16], other: &[u8; 16]) -> bool
+    ensures { λ r. ⌜ Decides r (now (one .entry) ≡ now (other .entry)) ⌝ }
+{
+    *one == *other
+}
+
+#[derive(Drop)]
+pub struct Session<H> {
+    home: H,
+    // for each record that a home can have, whether it was loaded
+    loaded: [bool; 65535],
+}
+
+impl<H: Home> Session<H> {
+    pub fn new(home: H) -> Session<H>
+        ensures home { λ r. ⌜ r .home ≡ home ⌝ }
+        ensures loaded { λ r. ⌜ r .loaded ≡ replicate 65535 false ⌝ }
+    {
+        Session { home, loaded: [false; 65535] }
+    }
+
+    // The home as it is now.
+    pub fn home(&self) -> &H
+        ensures { λ r. ⌜ now r ≡ now (self .entry) .home ⌝ }
+    {
+        &self.home
+    }
+
+    // Whether the record is read back as `body`.
+    fn reads_back(&mut self, record: u16, body: &[u8; 16]) -> bool
+        ensures said { λ r. ⌜ Decides r (Holds (H·Home .meaning (now (self .entry) .home)) «record» (now (body .entry))) ⌝ }
+        ensures home { λ _. ⌜ H·Home .meaning (now (self .exit) .home) ≡ H·Home .meaning (now (self .entry) .home) ⌝ }
+        ensures loaded { λ _. ⌜ now (self .exit) .loaded ≡ now (self .entry) .loaded ⌝ }
+    {
+        let mut found = [0; 16];
+        match self.home.read(record, &mut found) {
+            Ok(()) => same_body(&found, body),
+            Err(_) => false,
+        }
+    }
+
+    // Writes an entry and reads it back.
+    fn load(&mut self, wanted: Entry) -> Reply
+        ensures said { λ r. ⌜ r ≡ load-reply (H·Home .meaning (now (self .entry) .home)) wanted ⌝ }
+        ensures home { λ _. ⌜ H·Home .meaning (now (self .exit) .home) ≡ after-write (H·Home .meaning (now (self .entry) .home)) (wanted .«record») (wanted .body) ⌝ }
+        ensures loaded { λ _. ⌜ now (self .exit) .loaded ≡ marks-loaded (H·Home .meaning (now (self .entry) .home)) wanted (now (self .entry) .loaded) ⌝ }
+    {
+        if let Err(fault) = self.home.write(wanted.record, wanted.body) {
+            return Reply::Refused(wanted.record, fault);
+        }
+        self.loaded[wanted.record as usize] = true;
+        if self.reads_back(wanted.record, &wanted.body) {
+            Reply::Written(wanted.record)
+        } else {
+            Reply::Differs(wanted.record)
+        }
+    }
+
+    // Does what a line says, and tells what became of it.
+    pub fn line(&mut self, line: &[u8]) -> Reply
+        ensures said { λ r. ⌜ r ≡ reply-to (H·Home .meaning (now (self .entry) .home)) (entry-of (now (line .entry))) ⌝ }
+        ensures home { λ _. ⌜ H·Home .meaning (now (self .exit) .home) ≡ after-line (H·Home .meaning (now (self .entry) .home)) (entry-of (now (line .entry))) ⌝ }
+        ensures loaded { λ _. ⌜ now (self .exit) .loaded ≡ marks-after (H·Home .meaning (now (self .entry) .home)) (entry-of (now (line .entry))) (now (self .entry) .loaded) ⌝ }
+    {
+        match read_entry(line) {
+            Ok(wanted) => self.load(wanted),
+            Err(bad) => Reply::Bad(bad),
+        }
+    }
+
+    // What a record holds, if this session has loaded it.
+    pub fn row(&mut self, record: u16) -> Option<[u8; 16]>
+        ensures said { λ r. ⌜ r ≡ row (H·Home .meaning (now (self .entry) .home)) (now (self .entry) .loaded) «record» ⌝ }
+        ensures home { λ _. ⌜ H·Home .meaning (now (self .exit) .home) ≡ H·Home .meaning (now (self .entry) .home) ⌝ }
+        ensures loaded { λ _. ⌜ now (self .exit) .loaded ≡ now (self .entry) .loaded ⌝ }
+    {
+        if record == u16::MAX || !self.loaded[record as usize] {
+            return None;
+        }
+        let mut body = [0; 16];
+        match self.home.read(record, &mut body) {
+            Ok(()) => Some(body),
+            Err(_) => None,
+        }
+    }
+}
