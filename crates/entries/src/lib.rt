@@ -1,6 +1,9 @@
 // Lines of a loading list: a record number and the sixteen bytes of its body.
 ghost use mathlib.Core.Path.{_≡_};
+ghost use mathlib.Core.List.{_++_};
+ghost use lib.Chars.{codes};
 ghost use Rattle.std.specs.declared.option.Option.the-variants.{Some};
+ghost use Rattle.std.specs.Written.{decimal};
 ghost use Rattle.entries.specs.Digits.{spelled};
 ghost use Rattle.entries.specs.Entries.{entry-of};
 ghost use Rattle.entries.specs.Messages.{message};
@@ -11,6 +14,7 @@ use line::read_record;
 use line::split_digits;
 use line::without_return;
 use std::fmt;
+use std::str::from_utf8;
 
 mod digit;
 mod line;
@@ -22,6 +26,19 @@ mod tests;
 pub struct Entry {
     pub record: u16,
     pub body: [u8; 16],
+}
+
+// The line that gives the entry.
+pub impl fmt::Display for Entry as EntryDisplay {
+    ghost shown = { λ e. Some (decimal (e .«record») ++ (codes " " ++ spelled (e .body))) };
+
+    fn fmt<W: fmt::Write>(&self, f: &mut fmt::Formatter<W>) -> fmt::Result {
+        let record = self.record;
+        match from_utf8(&spell_body(&self.body)) {
+            Ok(digits) => write!(f, "{record} {digits}"),
+            Err(_) => Err(fmt::Error),
+        }
+    }
 }
 
 // Why a line gives no entry. Of several reasons the first is told.

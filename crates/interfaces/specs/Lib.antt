@@ -1,3 +1,4 @@
 pub mod Faults
 pub mod Homes
 pub mod Stamps
+pub mod Messages

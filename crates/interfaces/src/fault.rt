@@ -1,6 +1,9 @@
 // Why a home refuses a call.
 ghost use mathlib.Core.Path.{_≡_};
+ghost use Rattle.std.specs.declared.option.Option.the-variants.{Some};
 ghost use Rattle.interfaces.specs.Faults.{cause-number, arisen, deeper, passed-up};
+ghost use Rattle.interfaces.specs.Messages.{cause-words, fault-words};
+use std::fmt;
 
 #[derive(Clone, Copy, PartialEq, Eq, Debug)]
 pub enum Cause {
@@ -18,6 +21,25 @@ impl Cause {
         ensures { λ r. ⌜ r ≡ cause-number self ⌝ }
     {
         self as u8
+    }
+
+    // The cause in words.
+    fn words(self) -> &'static str
+        ensures { λ r. ⌜ now r ≡ cause-words self ⌝ }
+    {
+        match self {
+            Cause::Outside => "outside",
+            Cause::AllowanceSpent => "allowance spent",
+            Cause::AlreadyWritten => "already written",
+        }
+    }
+}
+
+pub impl fmt::Display for Cause as CauseDisplay {
+    ghost shown = { λ cause. Some (cause-words cause) };
+
+    fn fmt<W: fmt::Write>(&self, f: &mut fmt::Formatter<W>) -> fmt::Result {
+        f.write_str(self.words())
     }
 }
 
@@ -61,5 +83,16 @@ pub fn passed_up(answer: Result<(), Fault>) -> Result<(), Fault>
     match answer {
         Ok(()) => Ok(()),
         Err(fault) => Err(fault.deeper()),
+    }
+}
+
+pub impl fmt::Display for Fault as FaultDisplay {
+    ghost shown = { λ fault. Some (fault-words fault) };
+
+    fn fmt<W: fmt::Write>(&self, f: &mut fmt::Formatter<W>) -> fmt::Result {
+        let cause = self.cause;
+        let depth = self.depth;
+        let number = self.number;
+        write!(f, "{cause}, at depth {depth}, record {number}")
     }
 }

@@ -9,6 +9,7 @@ ghost use Rattle.std.specs.Orderings.{Decides};
 ghost use Rattle.interfaces.specs.Homes.{after-write};
 ghost use Rattle.entries.specs.Entries.{entry-of};
 ghost use Rattle.loading.specs.Loads.{Holds, load-reply, marks-loaded, reply-to, after-line, marks-after, row};
+ghost use Rattle.loading.specs.Tables.{Shows, Goes-on, Row-of};
 use crate::reply::Reply;
 use entries::Entry;
 use entries::read_entry;
@@ -32,6 +33,7 @@ impl<H: Home> Session<H> {
     pub fn new(home: H) -> Session<H>
         ensures home { λ r. ⌜ r .home ≡ home ⌝ }
         ensures loaded { λ r. ⌜ r .loaded ≡ replicate 65535 false ⌝ }
+        ensures table { λ r. ⌜ Shows (H·Home .meaning home .bodies) [] (H·Home .meaning (r .home) .bodies) (r .loaded) ⌝ }
     {
         Session { home, loaded: [false; 65535] }
     }
@@ -78,6 +80,7 @@ impl<H: Home> Session<H> {
         ensures said { λ r. ⌜ r ≡ reply-to (H·Home .meaning (now (self .entry) .home)) (entry-of (now (line .entry))) ⌝ }
         ensures home { λ _. ⌜ H·Home .meaning (now (self .exit) .home) ≡ after-line (H·Home .meaning (now (self .entry) .home)) (entry-of (now (line .entry))) ⌝ }
         ensures loaded { λ _. ⌜ now (self .exit) .loaded ≡ marks-after (H·Home .meaning (now (self .entry) .home)) (entry-of (now (line .entry))) (now (self .entry) .loaded) ⌝ }
+        ensures table { λ r. ⌜ Goes-on (H·Home .meaning (now (self .entry) .home) .bodies) (now (self .entry) .loaded) (record { line = now (line .entry); reply = r }) (H·Home .meaning (now (self .exit) .home) .bodies) (now (self .exit) .loaded) ⌝ }
     {
         match read_entry(line) {
             Ok(wanted) => self.load(wanted),
@@ -85,13 +88,23 @@ impl<H: Home> Session<H> {
         }
     }
 
+    // Whether this session has loaded the record.
+    fn was_loaded(&self, record: u16) -> bool
+        ensures { λ r. ⌜ r ≡ getD (now (self .entry) .loaded) «record» false ⌝ }
+    {
+        let loaded: &[bool] = &self.loaded;
+        let at = record as usize;
+        at < loaded.len() && loaded[at]
+    }
+
     // What a record holds, if this session has loaded it.
     pub fn row(&mut self, record: u16) -> Option<[u8; 16]>
         ensures said { λ r. ⌜ r ≡ row (H·Home .meaning (now (self .entry) .home)) (now (self .entry) .loaded) «record» ⌝ }
         ensures home { λ _. ⌜ H·Home .meaning (now (self .exit) .home) ≡ H·Home .meaning (now (self .entry) .home) ⌝ }
         ensures loaded { λ _. ⌜ now (self .exit) .loaded ≡ now (self .entry) .loaded ⌝ }
+        ensures table { λ r. ⌜ Row-of (H·Home .meaning (now (self .entry) .home) .bodies) (now (self .entry) .loaded) «record» r ⌝ }
     {
-        if record == u16::MAX || !self.loaded[record as usize] {
+        if !self.was_loaded(record) {
             return None;
         }
         let mut body = [0; 16];
