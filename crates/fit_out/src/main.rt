@@ -9,7 +9,6 @@ use homes::side_by_side::SideBySide;
 use homes::side_by_side::SideBySideHome;
 use homes::write_once::WriteOnce;
 use homes::write_once::WriteOnceHome;
-use interfaces::home::Home;
 use loading::reply::ReplyDisplay;
 use loading::session::Session;
 use std::io;
@@ -43,17 +42,16 @@ fn load_lines(rt: &LibcRuntime, session: &mut Session<Memory<'_>>) -> io::Result
     Ok(())
 }
 
-// Prints what each loaded record holds, and how many writes are left.
+// Prints what each loaded record holds.
 fn print_table(rt: &LibcRuntime, session: &mut Session<Memory<'_>>) -> io::Result<()> {
     println!(rt, "loaded records:")?;
-    for record in 0..session.home().count() {
+    for record in 0..u16::MAX {
         if let Some(body) = session.row(record) {
             let entry = Entry { record, body };
             println!(rt, "{entry}")?;
         }
     }
-    let left = session.home().writes_left();
-    println!(rt, "writes left: {left}")
+    Ok(())
 }
 
 fn run(rt: &LibcRuntime) -> io::Result<()> {
@@ -61,7 +59,9 @@ fn run(rt: &LibcRuntime) -> io::Result<()> {
     let homes = SideBySide::new(Plain::new(&mut bytes), WriteOnce::new());
     let mut session = Session::new(Allowance::new(homes, WRITES));
     load_lines(rt, &mut session)?;
-    print_table(rt, &mut session)
+    print_table(rt, &mut session)?;
+    let left = session.into_home().writes_left();
+    println!(rt, "writes left: {left}")
 }
 
 fn main(rt: LibcRuntime) -> io::Result<()> {

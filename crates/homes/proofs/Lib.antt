@@ -1,3 +1,2 @@
-pub mod Bodies
-pub mod Sixteens
+pub mod Overwrites
 pub mod Joins

@@ -1,3 +1,4 @@
+pub mod Bodies
 pub mod Plains
 pub mod WriteOnces
 pub mod Allowances

@@ -1,52 +1,19 @@
--- What lent bytes mean as a home: records of sixteen bytes one after another, each of which takes every write.
-use mathlib.Core.Path.{_≡_, ap, subst, _∙_}
+-- What lent bytes mean as a home: each record takes every write.
 use mathlib.Core.Bool.{cond}
-use mathlib.Core.List.{List, [], _++_, map}
-use native.Mathlib.Omega.{arith}
-use Prim.Native.Nat.{ℕ, _+_, _-_, _*_, _/_, _<_, _≤_, min}
+use mathlib.Core.List.{List}
+use Prim.Native.Nat.{ℕ, _+_, _*_}
 use lib.Dec.{ltb}
-use lib.ListN.{length, getD, take, drop, length-take, length-drop}
+use lib.ListN.{length}
 use Rattle.std.specs.declared.option.Option.the-variants.{None}
-use Rattle.std.specs.Iters.{counting}
-use Rattle.std.specs.shelf.Lists.{between}
-use Rattle.std.proofs.shelf.Counted.{length-map-counting, getD-map-counting}
 use Rattle.interfaces.specs.Homes.{Meaning, Well-formed}
-
--- how many records there are in n bytes
-abbrev pub records-in : ℕ → ℕ
-records-in n = min (n / 16) 65535
-
--- the bytes of record k
-abbrev pub body-at : List ℕ → ℕ → List ℕ
-body-at bytes k = between (k * 16) (k * 16 + 16) bytes
-
-abbrev pub bodies-of : List ℕ → List (List ℕ)
-bodies-of bytes = map (body-at bytes) (counting 0 (records-in (length bytes)))
-
--- the bytes with others in the place of those from `start` to `end`
-abbrev pub overwritten : ℕ → ℕ → List ℕ → List ℕ → List ℕ
-overwritten start end bytes others = take start bytes ++ (others ++ drop (end - start) (drop start bytes))
-
--- the bytes after a write of record k was asked for
-abbrev pub bytes-after : List ℕ → ℕ → List ℕ → List ℕ
-bytes-after bytes k body = cond (ltb k (length (bodies-of bytes))) (overwritten (k * 16) (k * 16 + 16) bytes body) bytes
+use Rattle.homes.specs.Bodies.{bodies-of, overwritten, few-bodies, sixteen-bodies}
 
 abbrev pub plain : List ℕ → Meaning
 plain bytes = record { bodies = bodies-of bytes; verdict = λ _ _. None }
 
-pub length-bodies : (bytes : List ℕ) → length (bodies-of bytes) ≡ records-in (length bytes)
-length-bodies bytes = length-map-counting (body-at bytes) 0 _
-
-pub body-within : (bytes : List ℕ) (k : ℕ) → k < length (bodies-of bytes) → k * 16 + 16 ≤ length bytes
-body-within bytes k h = omega (arith, length-bodies bytes)
-
-pub getD-bodies : (bytes : List ℕ) (k : ℕ) (d : List ℕ) → k < length (bodies-of bytes) → getD (bodies-of bytes) k d ≡ body-at bytes k
-getD-bodies bytes k d h = getD-map-counting (body-at bytes) 0 _ k k d (subst (λ m. k < m) (length-bodies bytes) h) (omega arith)
-
 pub plain-sound : (bytes : List ℕ) → Well-formed (plain bytes)
-plain-sound bytes = record {
-  few = omega (arith, length-bodies bytes);
-  sixteen = λ k h.
-      let w = body-within bytes k h in
-      ap length (getD-bodies bytes k [] h) ∙ length-take (k * 16 + 16 - k * 16) (drop (k * 16) bytes) ∙ omega (arith, length-drop (k * 16) bytes);
-}
+plain-sound bytes = record { few = few-bodies bytes; sixteen = sixteen-bodies bytes }
+
+-- the bytes after a write of record k was asked for
+abbrev pub bytes-after : List ℕ → ℕ → List ℕ → List ℕ
+bytes-after bytes k body = cond (ltb k (length (bodies-of bytes))) (overwritten (k * 16) (k * 16 + 16) bytes body) bytes

@@ -1,50 +1,48 @@
 // A home with 64 records of its own, each of which takes one write.
-ghost use Prim.Native.Nat.{ℕ, _<_};
+ghost use Prim.Native.Nat.{_<_};
 ghost use mathlib.Core.Path.{_≡_};
 ghost use mathlib.Core.List.{[]};
 ghost use lib.ListN.{length, getD};
-ghost use Rattle.homes.specs.WriteOnces.{once, once-new, once-few};
+ghost use Rattle.homes.specs.Bodies.{bodies-of};
+ghost use Rattle.homes.specs.WriteOnces.{once, once-new, once-sound};
+use crate::records;
 use interfaces::fault::Cause;
 use interfaces::fault::Fault;
 use interfaces::home::Home;
 
 #[derive(Drop)]
 pub struct WriteOnce {
-    bodies: [[u8; 16]; 64],
+    bytes: [u8; 1024],
+    // which records have had their write
     used: [bool; 64],
-    ghost all: { length bodies ≡ 64 },
-    ghost full: { (k : ℕ) → k < length bodies → length (getD bodies k []) ≡ 16 },
 }
 
 impl WriteOnce {
-    // How many records it has.
-    pub const RECORDS: u16 = 64;
-
     pub fn new() -> WriteOnce
-        ensures { λ r. ⌜ once (r .bodies) (r .used) ≡ once-new ⌝ }
+        ensures { λ r. ⌜ once (bodies-of (r .bytes)) (r .used) ≡ once-new ⌝ }
     {
         WriteOnce {
-            bodies: [[255; 16]; 64],
+            bytes: [255; 1024],
             used: [false; 64],
         }
     }
 
-    // The bytes of a record that is there.
+    // What a record that is there holds.
     fn load(&self, number: u16) -> [u8; 16]
-        requires { ⌜ number < 64 ⌝ }
-        ensures { λ r. ⌜ r ≡ getD (now (self .entry) .bodies) number [] ⌝ }
+        requires { ⌜ number < length (bodies-of (now self .bytes)) ⌝ }
+        ensures { λ r. ⌜ r ≡ getD (bodies-of (now (self .entry) .bytes)) number [] ⌝ }
     {
-        self.bodies[number as usize]
+        records::load(&self.bytes, number)
     }
 }
 
 pub impl Home for WriteOnce as WriteOnceHome {
-    ghost meaning = { λ s. once (s .bodies) (s .used) };
+    ghost meaning = { λ s. once (bodies-of (s .bytes)) (s .used) };
 
-    ghost sound = { λ s. record { few = once-few (s .bodies) (s .all); sixteen = s .full } };
+    ghost sound = { λ s. once-sound (s .bytes) (s .used) };
 
     fn count(&self) -> u16 {
-        WriteOnce::RECORDS
+        records::count_in(&self.bytes)
     }
 
     fn read(&mut self, number: u16, place: &mut [u8; 16]) -> Result<(), Fault> {
@@ -58,7 +56,7 @@ pub impl Home for WriteOnce as WriteOnceHome {
         if self.used[number as usize] {
             return Err(Fault::new(Cause::AlreadyWritten, number));
         }
-        self.bodies[number as usize] = body;
+        records::store(&mut self.bytes, number, &body);
         self.used[number as usize] = true;
         Ok(())
     }

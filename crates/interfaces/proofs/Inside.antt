@@ -32,10 +32,10 @@ verdict-outside m k h = cond-false _ _ _ (le-ltb k (length (m .bodies)) h)
 pub accepted-inside : (m : Meaning) (k : ℕ) (r : Result Unit Fault) (u : Unit {0}) → r ≡ answer (write-fault m k) → r ≡ Ok u → k < length (m .bodies)
 accepted-inside m k r u said ok =
     ⊎-elim
-      (λ lt. lt)
-      (λ le. let out : answer (write-fault m k) ≡ Err (outside k) = ap answer (verdict-outside m k le) in
-        let no-way : _≡_ {A = ℕ} 0 1 = cc in omega arith)
-      (cases-lt k (length (m .bodies)))
+    (λ lt. lt)
+    (λ le. let out : answer (write-fault m k) ≡ Err (outside k) = ap answer (verdict-outside m k le) in
+    let no-way : _≡_ {A = ℕ} 0 1 = cc in omega arith)
+    (cases-lt k (length (m .bodies)))
 
 -- an answer passed up is the answer of the fault raised
 pub passes : (o : Option Fault) → passed-up (answer o) ≡ answer (raised o)

@@ -22,6 +22,13 @@ fn same_body(one: &[u8; 16], other: &[u8; 16]) -> bool
     *one == *other
 }
 
+// The marks of a session that has loaded nothing.
+fn none_loaded() -> [bool; 65535]
+    ensures { λ r. ⌜ r ≡ replicate 65535 false ⌝ }
+{
+    [false; 65535]
+}
+
 #[derive(Drop)]
 pub struct Session<H> {
     home: H,
@@ -35,14 +42,18 @@ impl<H: Home> Session<H> {
         ensures loaded { λ r. ⌜ r .loaded ≡ replicate 65535 false ⌝ }
         ensures table { λ r. ⌜ Shows (H·Home .meaning home .bodies) [] (H·Home .meaning (r .home) .bodies) (r .loaded) ⌝ }
     {
-        Session { home, loaded: [false; 65535] }
+        Session {
+            home,
+            loaded: none_loaded(),
+        }
     }
 
-    // The home as it is now.
-    pub fn home(&self) -> &H
-        ensures { λ r. ⌜ now r ≡ now (self .entry) .home ⌝ }
+    // Ends the session and gives the home back.
+    pub fn into_home(self) -> H
+        ensures { λ r. ⌜ r ≡ self .home ⌝ }
     {
-        &self.home
+        let Session { home, loaded: _ } = self;
+        home
     }
 
     // Whether the record is read back as `body`.

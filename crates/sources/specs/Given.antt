@@ -1,11 +1,19 @@
 -- The very stamps that the sources give.
 use mathlib.Core.Bool.{cond}
-use Prim.Native.Nat.{ℕ, _+_, min, max}
+use native.Mathlib.Omega.{arith}
+use Prim.Native.Nat.{ℕ, _+_, _≤_, min, max}
 use lib.Dec.{eqb}
 use Rattle.std.specs.declared.result.Result.{Result}
 use Rattle.std.specs.declared.result.Result.the-variants.{Ok, Err}
 use Rattle.interfaces.specs.declared.source.StampsSpent.{StampsSpent}
 use Rattle.interfaces.specs.Stamps.{top}
+
+-- a stamp that a source keeps: at most the top
+abbrev pub stamp-of : ℕ → ℕ
+stamp-of kept = min kept top
+
+pub stamp-bounded : (kept : ℕ) → stamp-of kept ≤ top
+stamp-bounded kept = omega arith
 
 -- the latest tick that a clock knows; a later one counts as it
 abbrev pub last-tick : ℕ

@@ -1,15 +1,13 @@
 // A source whose stamps follow the tick where it runs ahead of them, and never fall.
 ghost use mathlib.Core.Path.{_≡_};
-ghost use Prim.Native.Nat.{_≤_};
-ghost use Rattle.interfaces.specs.Stamps.{top, Marked, Drawn};
-ghost use Rattle.sources.specs.Given.{tick-of, clock-mark, clock-next};
+ghost use Rattle.interfaces.specs.Stamps.{Marked, Drawn};
+ghost use Rattle.sources.specs.Given.{stamp-of, stamp-bounded, tick-of, clock-mark, clock-next};
 use interfaces::source::Source;
 use interfaces::source::StampsSpent;
 
 #[derive(Drop)]
 pub struct Clock {
     highest: u64,
-    ghost fits: { highest ≤ top },
 }
 
 impl Clock {
@@ -18,7 +16,7 @@ impl Clock {
 
     // A clock whose highest stamp so far is `highest`.
     pub fn new(highest: u64) -> Clock
-        ensures { λ r. ⌜ r .highest ≡ highest ⌝ }
+        ensures { λ r. ⌜ stamp-of (r .highest) ≡ highest ⌝ }
     {
         Clock { highest }
     }
@@ -32,25 +30,25 @@ impl Clock {
 }
 
 pub impl Source for Clock as ClockSource {
-    ghost highest = { λ s. s .highest };
+    ghost highest = { λ s. stamp-of (s .highest) };
 
-    ghost bounded = { λ s. s .fits };
+    ghost bounded = { λ s. stamp-bounded (s .highest) };
 
     fn highest(&self) -> u64 {
         self.highest
     }
 
     fn mark(&mut self, tick: u64) -> u64
-        ensures lawful { λ r. ⌜ Marked (now (self .entry) .highest) r (now (self .exit) .highest) ⌝ }
-        ensures exact { λ r. ⌜ r ≡ clock-mark (now (self .entry) .highest) tick ⌝ }
+        ensures lawful { λ r. ⌜ Marked (stamp-of (now (self .entry) .highest)) r (stamp-of (now (self .exit) .highest)) ⌝ }
+        ensures exact { λ r. ⌜ r ≡ clock-mark (stamp-of (now (self .entry) .highest)) tick ⌝ }
     {
         self.highest = Clock::tick_of(tick).max(self.highest);
         self.highest
     }
 
     fn next(&mut self, tick: u64) -> Result<u64, StampsSpent>
-        ensures lawful { λ r. ⌜ Drawn (now (self .entry) .highest) r (now (self .exit) .highest) ⌝ }
-        ensures exact { λ r. ⌜ r ≡ clock-next (now (self .entry) .highest) tick ⌝ }
+        ensures lawful { λ r. ⌜ Drawn (stamp-of (now (self .entry) .highest)) r (stamp-of (now (self .exit) .highest)) ⌝ }
+        ensures exact { λ r. ⌜ r ≡ clock-next (stamp-of (now (self .entry) .highest)) tick ⌝ }
     {
         if self.highest == u64::MAX {
             return Err(StampsSpent);

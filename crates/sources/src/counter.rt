@@ -1,45 +1,43 @@
 // A source that counts its stamps and ignores the tick.
 ghost use mathlib.Core.Path.{_≡_};
-ghost use Prim.Native.Nat.{_≤_};
-ghost use Rattle.interfaces.specs.Stamps.{top, Marked, Drawn};
-ghost use Rattle.sources.specs.Given.{counted};
+ghost use Rattle.interfaces.specs.Stamps.{Marked, Drawn};
+ghost use Rattle.sources.specs.Given.{stamp-of, stamp-bounded, counted};
 use interfaces::source::Source;
 use interfaces::source::StampsSpent;
 
 #[derive(Drop)]
 pub struct Counter {
     highest: u64,
-    ghost fits: { highest ≤ top },
 }
 
 impl Counter {
     // A counter whose highest stamp so far is `highest`.
     pub fn new(highest: u64) -> Counter
-        ensures { λ r. ⌜ r .highest ≡ highest ⌝ }
+        ensures { λ r. ⌜ stamp-of (r .highest) ≡ highest ⌝ }
     {
         Counter { highest }
     }
 }
 
 pub impl Source for Counter as CounterSource {
-    ghost highest = { λ s. s .highest };
+    ghost highest = { λ s. stamp-of (s .highest) };
 
-    ghost bounded = { λ s. s .fits };
+    ghost bounded = { λ s. stamp-bounded (s .highest) };
 
     fn highest(&self) -> u64 {
         self.highest
     }
 
     fn mark(&mut self, _tick: u64) -> u64
-        ensures lawful { λ r. ⌜ Marked (now (self .entry) .highest) r (now (self .exit) .highest) ⌝ }
-        ensures exact { λ r. ⌜ r ≡ now (self .entry) .highest ⌝ }
+        ensures lawful { λ r. ⌜ Marked (stamp-of (now (self .entry) .highest)) r (stamp-of (now (self .exit) .highest)) ⌝ }
+        ensures exact { λ r. ⌜ r ≡ stamp-of (now (self .entry) .highest) ⌝ }
     {
         self.highest()
     }
 
     fn next(&mut self, _tick: u64) -> Result<u64, StampsSpent>
-        ensures lawful { λ r. ⌜ Drawn (now (self .entry) .highest) r (now (self .exit) .highest) ⌝ }
-        ensures exact { λ r. ⌜ r ≡ counted (now (self .entry) .highest) ⌝ }
+        ensures lawful { λ r. ⌜ Drawn (stamp-of (now (self .entry) .highest)) r (stamp-of (now (self .exit) .highest)) ⌝ }
+        ensures exact { λ r. ⌜ r ≡ counted (stamp-of (now (self .entry) .highest)) ⌝ }
     {
         if self.highest == u64::MAX {
             return Err(StampsSpent);

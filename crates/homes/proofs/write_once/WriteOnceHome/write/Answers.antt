@@ -1,13 +1,9 @@
-use mathlib.Core.Path.{_≡_}
 use native.Mathlib.Omega.{arith}
-use lib.ListN.{length}
-use Rattle.std.proofs.shelf.Lists.{length-set}
-use Rattle.homes.proofs.Sixteens.{sixteen-set}
+use Rattle.homes.specs.Bodies.{length-bodies}
 use Rattle.homes.proofs.write_once.WriteOnceHome.write.Needs as need
 
-pub ghost-self : need.ghost-self
-ghost-self c =
-    let l : length (c .args .body) ≡ 16 = omega arith in (
-      simp length-set (c .args .self .now .all),
-      (sixteen-set (c .args .self .now .bodies) (c .args .number) (c .args .body) (c .in-Continue-inside .ensures tt) l (c .args .self .now .full), tt),
-    )
+pub index-self-number : need.index-self-number
+index-self-number c = omega (arith, c .in-Continue-inside .ensures tt, length-bodies (c .args .self .now .bytes))
+
+pub index-self-number-2 : need.index-self-number-2
+index-self-number-2 c = omega (arith, c .in-Continue-inside .ensures tt, length-bodies (c .args .self .now .bytes))

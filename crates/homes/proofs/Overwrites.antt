@@ -11,7 +11,7 @@ use Rattle.std.proofs.shelf.Lists.{same-lists, length-set, getD-set-same, getD-
 use Rattle.std.proofs.shelf.Tests.{cases-eq}
 use Rattle.std.proofs.shelf.Counted.{length-map-counting, getD-map-counting}
 use Rattle.std.proofs.shelf.Parts.{between-putMid}
-use Rattle.homes.specs.Plains.{records-in, body-at, bodies-of, length-bodies, overwritten}
+use Rattle.homes.specs.Bodies.{records-in, body-at, bodies-of, length-bodies, overwritten}
 
 -- a list by index, changed at one place
 set-counted : {X : Type 0} (f g : ℕ → X) (n k : ℕ) (v : X) → k < n → g k ≡ v → ((j : ℕ) → j < n → (j ≡ k → ⊥) → g j ≡ f j) → map g (counting 0 n) ≡ set (map f (counting 0 n)) k v
@@ -32,6 +32,7 @@ other-body bytes body k j hk hj l ne = same-lists _ _ (search (needs, places)) (
 
 -- the record has the new bytes, and no other record is changed
 pub bodies-overwritten : (bytes : List ℕ) (k : ℕ) (body : List ℕ) → k < length (bodies-of bytes) → length body ≡ 16 → bodies-of (overwritten (k * 16) (k * 16 + 16) bytes body) ≡ set (bodies-of bytes) k body
+unfolding bodies-of
 bodies-overwritten bytes k body h l =
     let after : List ℕ = overwritten (k * 16) (k * 16 + 16) bytes body in
     let lt : k < records-in (length bytes) = subst (λ m. k < m) (length-bodies bytes) h in

@@ -1,0 +1,9 @@
+// Examples of the parts, as tests.
+#[cfg(test)]
+mod faults;
+#[cfg(test)]
+mod layers;
+#[cfg(test)]
+mod memories;
+#[cfg(test)]
+mod stamps;
