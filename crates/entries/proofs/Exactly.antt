@@ -1,4 +1,4 @@
--- The lines that give an entry are those that spell it. Assumes nothing.
+-- The lines that give an entry are those that spell it.
 use mathlib.Core.Path.{_≡_, refl, sym, ap, _∙_}
 use mathlib.Core.Logic.{_⊎_, inl, inr}
 use mathlib.Core.Bool.{Bool, true, false}
@@ -179,5 +179,8 @@ spells-from-entry line e h =
       ends = end .ends;
     }
 
-pub reads-exactly : Reads-exactly
-reads-exactly line e = (spells-from-entry line e, entry-from-spells line e)
+pub reads-exactly : (line : List ℕ) (r : Result Entry BadLine) → r ≡ entry-of line → Reads-exactly line r
+reads-exactly line r said = record {
+  spelled-line = λ e is. spells-from-entry line e (sym said ∙ is);
+  read-line = λ e spells. said ∙ entry-from-spells line e spells;
+}

@@ -1,4 +1,4 @@
--- Hexadecimal digits, and the bytes that pairs of them write. Assumes nothing.
+-- Hexadecimal digits, and the bytes that pairs of them write.
 use mathlib.Core.Path.{_≡_, refl, ap, sym, _∙_}
 use mathlib.Core.Bool.{true, false, _&&_}
 use mathlib.Core.List.{List, [], _∷_, _++_, append-assoc}

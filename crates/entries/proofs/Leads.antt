@@ -1,4 +1,4 @@
--- The decimal digits that a text begins with, and what follows them. Assumes nothing.
+-- The decimal digits that a text begins with, and what follows them.
 use mathlib.Core.Path.{_≡_, refl, ap, _∙_}
 use mathlib.Core.Bool.{true, false, cond}
 use mathlib.Core.List.{List, [], _∷_, _++_}

@@ -1,4 +1,4 @@
--- The number that decimal digits write. Assumes nothing.
+-- The number that decimal digits write.
 use mathlib.Core.Path.{_≡_}
 use mathlib.Core.Bool.{cond}
 use mathlib.Core.List.{List, [], _∷_}

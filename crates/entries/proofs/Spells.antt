@@ -1,4 +1,4 @@
--- The digits that spell bytes. Assumes nothing.
+-- The digits that spell bytes.
 use mathlib.Core.Path.{_≡_, ap, sym, _∙_}
 use mathlib.Core.List.{List, [], _∷_, _++_, append-assoc}
 use Prim.Native.Nat.{ℕ, _+_, _*_, _/_, _%_, _<_, _≤_}

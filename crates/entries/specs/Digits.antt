@@ -1,4 +1,4 @@
--- Decimal and hexadecimal digits, as bytes of text, and what they are worth. Assumes nothing.
+-- Decimal and hexadecimal digits, as bytes of text, and what they are worth.
 use mathlib.Core.Path.{_≡_}
 use mathlib.Core.Bool.{Bool, true, cond, _&&_, _||_}
 use mathlib.Core.List.{List, [], _∷_}

@@ -1,4 +1,4 @@
--- A line of a loading list, and the entry that it gives. Assumes nothing.
+-- A line of a loading list, and the entry that it gives.
 use mathlib.Core.Bool.{Bool, true, cond, _&&_}
 use mathlib.Core.List.{List, [], _∷_}
 use Prim.Native.Nat.{ℕ, _-_}

@@ -1,4 +1,4 @@
--- What is shown of a line that gives no entry. Assumes nothing.
+-- What is shown of a line that gives no entry.
 use mathlib.Core.List.{List}
 use Prim.Native.Nat.{ℕ}
 use lib.Chars.{codes}

@@ -1,11 +1,15 @@
--- Which line spells which entry, in the words of the format. Assumes nothing.
+-- Which line spells which entry, in the words of the format.
 use mathlib.Core.Path.{_≡_}
 use mathlib.Core.Logic.{_⊎_}
 use mathlib.Core.List.{List, [], _∷_, _++_}
 use Prim.Native.Nat.{ℕ, _<_, _≤_}
+use lib.Chars.{codes}
 use lib.ListN.{length}
 use Rattle.std.specs.shelf.Lists.{All}
+use Rattle.std.specs.Written.{decimal}
+use Rattle.std.specs.declared.result.Result.{Result}
 use Rattle.std.specs.declared.result.Result.the-variants.{Ok}
+use Rattle.entries.specs.declared.BadLine.{BadLine}
 use Rattle.entries.specs.declared.Entry.{Entry}
 use Rattle.entries.specs.Digits.{Decimal, number, Hexadecimal, pair-values, spelled}
 use Rattle.entries.specs.Entries.{entry-of}
@@ -26,10 +30,15 @@ pub record Spells (line : List ℕ) (e : Entry) : Type 0 where
   pub body-is : e .body ≡ pair-values hexes
   pub ends : (ending ≡ []) ⊎ (ending ≡ 13 ∷ [])
 
--- the lines that give an entry are those that spell it
-abbrev pub Reads-exactly : Type 0
-Reads-exactly = (line : List ℕ) (e : Entry) → (entry-of line ≡ Ok e → Spells line e) × (Spells line e → entry-of line ≡ Ok e)
+-- a line is read as an entry exactly where it spells that entry
+pub record Reads-exactly (line : List ℕ) (r : Result Entry BadLine) : Type 0 where
+  pub spelled-line : (e : Entry) → r ≡ Ok e → Spells line e
+  pub read-line : (e : Entry) → Spells line e → r ≡ Ok e
 
--- a body that is spelled is read back
-abbrev pub Spelled-reads-back : Type 0
-Spelled-reads-back = (digits bytes : List ℕ) → 0 < length digits → All Decimal digits → number digits ≤ 65535 → length bytes ≡ 16 → All (λ b. b < 256) bytes → entry-of (digits ++ 32 ∷ spelled bytes) ≡ Ok (record { «record» = number digits; body = bytes })
+-- the line that is shown of an entry
+abbrev pub line-of : Entry → List ℕ
+line-of e = decimal (e .«record») ++ (codes " " ++ spelled (e .body))
+
+-- the line that is shown of an entry gives that entry
+abbrev pub Shown-reads-back : Type 0
+Shown-reads-back = (e : Entry) → e .«record» ≤ 65535 → length (e .body) ≡ 16 → All (λ b. b < 256) (e .body) → entry-of (line-of e) ≡ Ok e

@@ -1,13 +1,10 @@
 // Lines of a loading list: a record number and the sixteen bytes of its body.
 ghost use mathlib.Core.Path.{_≡_};
-ghost use mathlib.Core.List.{_++_};
-ghost use lib.Chars.{codes};
 ghost use Rattle.std.specs.declared.option.Option.the-variants.{Some};
-ghost use Rattle.std.specs.Written.{decimal};
 ghost use Rattle.entries.specs.Digits.{spelled};
 ghost use Rattle.entries.specs.Entries.{entry-of};
 ghost use Rattle.entries.specs.Messages.{message};
-ghost use Rattle.entries.specs.Spelling.{Reads-exactly, Spelled-reads-back};
+ghost use Rattle.entries.specs.Spelling.{line-of, Reads-exactly, Shown-reads-back};
 use digit::digits_of;
 use line::read_body;
 use line::read_record;
@@ -30,7 +27,7 @@ pub struct Entry {
 
 // The line that gives the entry.
 pub impl fmt::Display for Entry as EntryDisplay {
-    ghost shown = { λ e. Some (decimal (e .«record») ++ (codes " " ++ spelled (e .body))) };
+    ghost shown = { λ e. Some (line-of e) };
 
     fn fmt<W: fmt::Write>(&self, f: &mut fmt::Formatter<W>) -> fmt::Result {
         let record = self.record;
@@ -81,7 +78,8 @@ impl BadLine {
 
 // The entry that a line gives, as `7 00112233445566778899AABBCCDDEEFF`.
 pub fn read_entry(line: &[u8]) -> Result<Entry, BadLine>
-    ensures { λ r. ⌜ r ≡ entry-of (now (line .entry)) ⌝ }
+    ensures said { λ r. ⌜ r ≡ entry-of (now (line .entry)) ⌝ }
+    ensures exactly { λ r. ⌜ Reads-exactly (now (line .entry)) r ⌝ }
 {
     let (digits, rest) = split_digits(without_return(line));
     let record = read_record(digits)?;
@@ -102,16 +100,9 @@ pub fn spell_body(body: &[u8; 16]) -> [u8; 32]
     text
 }
 
-// The lines that give an entry are exactly those that spell it.
-pub fn reads_exactly() -> u8
-    ensures { λ _. ⌜ Reads-exactly ⌝ }
-{
-    0
-}
-
-// The digits that spell a body, behind a record number and a blank, give that entry.
-pub fn spelled_reads_back() -> u8
-    ensures { λ _. ⌜ Spelled-reads-back ⌝ }
+// The line that is shown of an entry gives that entry.
+pub fn shown_reads_back() -> u8
+    ensures { λ _. ⌜ Shown-reads-back ⌝ }
 {
     0
 }

@@ -1,10 +1,8 @@
 // A session: a home, and which of its records have been loaded.
 ghost use mathlib.Core.Path.{_≡_};
-ghost use mathlib.Core.Bool.{Bool, false};
-ghost use mathlib.Core.List.{List, [], _∷_, _++_};
-ghost use Prim.Native.Nat.{ℕ};
-ghost use lib.Dec.{eqb};
-ghost use lib.ListN.{length, getD, set, replicate};
+ghost use mathlib.Core.Bool.{false};
+ghost use mathlib.Core.List.{[]};
+ghost use lib.ListN.{getD, replicate};
 ghost use Rattle.std.specs.Orderings.{Decides};
 ghost use Rattle.interfaces.specs.Homes.{after-write};
 ghost use Rattle.entries.specs.Entries.{entry-of};

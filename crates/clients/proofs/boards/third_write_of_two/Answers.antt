@@ -8,6 +8,7 @@ use Rattle.interfaces.specs.declared.fault.Cause.the-variants.{AllowanceSpent}
 use Rattle.interfaces.specs.declared.fault.Fault.{Fault}
 use Rattle.interfaces.specs.Faults.{arisen, answer}
 use Rattle.interfaces.specs.Homes.{Meaning, write-fault, after-write}
+use Rattle.homes.specs.Bodies.{bodies-of}
 use Rattle.homes.specs.Plains.{plain}
 use Rattle.homes.specs.Allowances.{allowing}
 use Rattle.clients.proofs.boards.third_write_of_two.Needs as need
@@ -20,6 +21,7 @@ run : (m₀ m₁ m₂ : Meaning) (r₁ r₂ r₃ : Result Unit Fault) → m₀ �
     r₂ ≡ answer (write-fault m₁ 1) → m₂ ≡ after-write m₁ 1 (replicate 16 2) →
     r₃ ≡ answer (write-fault m₂ 1) →
     (isOk r₁ ≡ true) × (isOk r₂ ≡ true) × (r₃ ≡ Err (arisen AllowanceSpent 1))
+unfolding bodies-of
 run m₀ m₁ m₂ r₁ r₂ r₃ e₀ s₁ e₁ s₂ e₂ s₃ =
     let f₁ = e₁ ∙ ap (λ m. after-write m 0 (replicate 16 1)) e₀ in
     let f₂ = e₂ ∙ ap (λ m. after-write m 1 (replicate 16 2)) f₁ in (
