@@ -10,8 +10,6 @@ use homes::allowance::Allowance;
 use homes::allowance::AllowanceHome;
 use homes::plain::Plain;
 use homes::plain::PlainHome;
-use homes::side_by_side::SideBySide;
-use homes::side_by_side::SideBySideHome;
 use interfaces::fault::Fault;
 use interfaces::home::Home;
 

@@ -1,6 +1,8 @@
 // A layer that lets so many more writes through to the home below.
 ghost use mathlib.Core.Path.{_≡_};
-ghost use Rattle.homes.specs.Allowances.{allowing, allowing-sound};
+ghost use Rattle.interfaces.specs.Faults.{answer};
+ghost use Rattle.interfaces.specs.Homes.{read-fault, place-after, write-fault, after-write};
+ghost use Rattle.homes.specs.Allowances.{allowing, allowing-sound, writes-after};
 use interfaces::fault::Cause;
 use interfaces::fault::Fault;
 use interfaces::fault::passed_up;
@@ -40,13 +42,22 @@ pub impl<H: Home> Home for Allowance<H> as AllowanceHome {
         self.below.count()
     }
 
-    fn read(&mut self, number: u16, place: &mut [u8; 16]) -> Result<(), Fault> {
+    fn read(&mut self, number: u16, place: &mut [u8; 16]) -> Result<(), Fault>
+        ensures said { λ r. ⌜ r ≡ answer (read-fault (allowing (now (self .entry) .«writes_left») (H·Home .meaning (now (self .entry) .below))) number) ⌝ }
+        ensures got { λ _. ⌜ now (place .exit) ≡ place-after (allowing (now (self .entry) .«writes_left») (H·Home .meaning (now (self .entry) .below))) number (now (place .entry)) ⌝ }
+        ensures left { λ _. ⌜ allowing (now (self .exit) .«writes_left») (H·Home .meaning (now (self .exit) .below)) ≡ allowing (now (self .entry) .«writes_left») (H·Home .meaning (now (self .entry) .below)) ⌝ }
+        ensures writes { λ _. ⌜ now (self .exit) .«writes_left» ≡ now (self .entry) .«writes_left» ⌝ }
+    {
         self.inside(number)?;
         passed_up(self.below.read(number, place))?;
         Ok(())
     }
 
-    fn write(&mut self, number: u16, body: [u8; 16]) -> Result<(), Fault> {
+    fn write(&mut self, number: u16, body: [u8; 16]) -> Result<(), Fault>
+        ensures said { λ r. ⌜ r ≡ answer (write-fault (allowing (now (self .entry) .«writes_left») (H·Home .meaning (now (self .entry) .below))) number) ⌝ }
+        ensures left { λ _. ⌜ allowing (now (self .exit) .«writes_left») (H·Home .meaning (now (self .exit) .below)) ≡ after-write (allowing (now (self .entry) .«writes_left») (H·Home .meaning (now (self .entry) .below))) number body ⌝ }
+        ensures writes { λ r. ⌜ now (self .exit) .«writes_left» ≡ writes-after r (now (self .entry) .«writes_left») ⌝ }
+    {
         self.inside(number)?;
         let Allowance { below, writes_left } = self;
         if *writes_left == 0 {

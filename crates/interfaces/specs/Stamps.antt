@@ -14,7 +14,7 @@ abbrev pub Marked : ℕ → ℕ → ℕ → Type 0
 Marked before stamp after = (before ≤ stamp) × (after ≡ stamp)
 
 -- a next: a stamp above the highest before, which is the highest after; refused, with no change, where the
--- highest is the top already
+-- highest is the top already, and only there, since no highest is above the top
 abbrev pub Drawn : ℕ → Result ℕ StampsSpent → ℕ → Type 0
 Drawn before (Ok stamp) after = (before < stamp) × (after ≡ stamp)
 Drawn before (Err _) after = (before ≡ top) × (after ≡ before)

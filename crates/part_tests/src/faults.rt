@@ -1,7 +1,5 @@
 // Faults on their way up.
 use interfaces::fault::Cause;
-use interfaces::fault::CauseDebug;
-use interfaces::fault::CausePartialEq;
 use interfaces::fault::Fault;
 use interfaces::fault::FaultDebug;
 use interfaces::fault::FaultDisplay;
