@@ -1,5 +1,4 @@
 -- What a home of records means that take one write each.
-use mathlib.Core.Path.{_≡_, refl}
 use mathlib.Core.Bool.{Bool, true, false, cond}
 use mathlib.Core.List.{List, [], _∷_}
 use Prim.Native.Nat.{ℕ}
@@ -25,11 +24,6 @@ once bodies used = record {
 pub once-sound : (bytes : List ℕ) (used : List Bool) → Well-formed (once (bodies-of bytes) used)
 once-sound bytes used = record { few = few-bodies bytes; sixteen = sixteen-bodies bytes }
 
--- at first every byte is 255, and no record has had its write
+-- at first there are 64 records, every byte is 255, and none has had its write
 abbrev pub once-new : Meaning
-once-new = once (bodies-of (replicate 1024 255)) (replicate 64 false)
-
--- that is 64 records
-pub once-new-bodies : once-new .bodies ≡ replicate 64 (replicate 16 255)
-unfolding bodies-of
-once-new-bodies = refl
+once-new = once (replicate 64 (replicate 16 255)) (replicate 64 false)

@@ -2,7 +2,7 @@
 ghost use Prim.Native.Nat.{_<_};
 ghost use mathlib.Core.Path.{_≡_};
 ghost use mathlib.Core.List.{[]};
-ghost use lib.ListN.{length, getD};
+ghost use lib.ListN.{length, getD, replicate};
 ghost use Rattle.homes.specs.Bodies.{bodies-of};
 ghost use Rattle.homes.specs.WriteOnces.{once, once-new, once-sound};
 use crate::records;
@@ -17,12 +17,19 @@ pub struct WriteOnce {
     used: [bool; 64],
 }
 
+// The bytes of 64 records that have not been written.
+fn blank_bytes() -> [u8; 1024]
+    ensures { λ r. ⌜ bodies-of r ≡ replicate 64 (replicate 16 255) ⌝ }
+{
+    [255; 1024]
+}
+
 impl WriteOnce {
     pub fn new() -> WriteOnce
         ensures { λ r. ⌜ once (bodies-of (r .bytes)) (r .used) ≡ once-new ⌝ }
     {
         WriteOnce {
-            bytes: [255; 1024],
+            bytes: blank_bytes(),
             used: [false; 64],
         }
     }

@@ -16,11 +16,11 @@ pub enum Reply {
     // The line gives no entry. Nothing is changed.
     Bad(BadLine),
     // The record has the body of the line, and was read back the same.
-    Written(u16),
+    Written { record: u16 },
     // The home refused the write of the record. Nothing is changed.
-    Refused(u16, Fault),
+    Refused { record: u16, fault: Fault },
     // The home took the write and gives something else back: no home that keeps its rules does.
-    Differs(u16),
+    Differs { record: u16 },
 }
 
 pub impl fmt::Display for Reply as ReplyDisplay {
@@ -29,9 +29,9 @@ pub impl fmt::Display for Reply as ReplyDisplay {
     fn fmt<W: fmt::Write>(&self, f: &mut fmt::Formatter<W>) -> fmt::Result {
         match self {
             Reply::Bad(bad) => write!(f, "bad line: {bad}"),
-            Reply::Written(record) => write!(f, "record {record} written and read back"),
-            Reply::Refused(record, fault) => write!(f, "record {record} refused: {fault}"),
-            Reply::Differs(record) => write!(f, "record {record} differs from what was written"),
+            Reply::Written { record } => write!(f, "record {record} written and read back"),
+            Reply::Refused { record, fault } => write!(f, "record {record} refused: {fault}"),
+            Reply::Differs { record } => write!(f, "record {record} differs from what was written"),
         }
     }
 }

@@ -73,14 +73,15 @@ impl<H: Home> Session<H> {
         ensures home { λ _. ⌜ H·Home .meaning (now (self .exit) .home) ≡ after-write (H·Home .meaning (now (self .entry) .home)) (wanted .«record») (wanted .body) ⌝ }
         ensures loaded { λ _. ⌜ now (self .exit) .loaded ≡ marks-loaded (H·Home .meaning (now (self .entry) .home)) wanted (now (self .entry) .loaded) ⌝ }
     {
-        if let Err(fault) = self.home.write(wanted.record, wanted.body) {
-            return Reply::Refused(wanted.record, fault);
+        let Entry { record, body } = wanted;
+        if let Err(fault) = self.home.write(record, body) {
+            return Reply::Refused { record, fault };
         }
-        self.loaded[wanted.record as usize] = true;
-        if self.reads_back(wanted.record, &wanted.body) {
-            Reply::Written(wanted.record)
+        self.loaded[record as usize] = true;
+        if self.reads_back(record, &body) {
+            Reply::Written { record }
         } else {
-            Reply::Differs(wanted.record)
+            Reply::Differs { record }
         }
     }
 

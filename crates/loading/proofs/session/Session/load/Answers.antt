@@ -2,8 +2,8 @@ use native.Mathlib.Omega.{arith}
 use Rattle.interfaces.proofs.Inside.{accepted-inside}
 use Rattle.loading.proofs.session.Session.load.Needs as need
 
-pub index-self-wanted : need.index-self-wanted
-index-self-wanted g c =
+pub index-self-record : need.index-self-record
+index-self-record g c =
     let m = g .H·Home .meaning (c .args .self .now .home) in
     let inside = accepted-inside m (c .args .wanted .«record») (c .write .result) _ (c .write .ensures .said) (c .in-rest .is) in
     omega (arith, inside, g .H·Home .sound (c .args .self .now .home) .few)
