@@ -19,7 +19,7 @@ mod line;
 mod tests;
 
 // What one line loads.
-#[derive(Clone, Copy, PartialEq, Eq, Debug)]
+#[derive(Clone, Copy, Debug)]
 pub struct Entry {
     pub record: u16,
     pub body: [u8; 16],

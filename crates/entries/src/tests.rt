@@ -2,6 +2,12 @@
 use super::*;
 use std::test::*;
 
+impl PartialEq<Entry> for Entry as SameEntry {
+    fn eq(&self, other: &Entry) -> bool {
+        self.record == other.record && self.body == other.body
+    }
+}
+
 const BODY: [u8; 16] = [
     0x00,
     0x11,

@@ -6,4 +6,6 @@ mod layers;
 #[cfg(test)]
 mod memories;
 #[cfg(test)]
+mod sessions;
+#[cfg(test)]
 mod stamps;

@@ -34,5 +34,10 @@ pub returns : need.returns
 returns c =
     let first = c .write-first .ensures in
     let second = c .write-second .ensures in
-    let ran = run _ _ _ _ _ _ (c .allowance-of-two-home .ensures) (first .said) (first .left) (second .said) (second .left) (c .write-third .ensures .said) in
+    let ran = run
+    (allowing (c .allowance-of-two-home .result .«writes_left») (plain (c .allowance-of-two-home .result .below .bytes .now)))
+    (allowing (c .write-first .last .self .«writes_left») (plain (c .write-first .last .self .below .bytes .now)))
+    (allowing (c .write-second .last .self .«writes_left») (plain (c .write-second .last .self .below .bytes .now)))
+    (c .write-first .result) (c .write-second .result) (c .write-third .result)
+    (c .allowance-of-two-home .ensures) (first .said) (first .left) (second .said) (second .left) (c .write-third .ensures .said) in
     λ i. ((c .is-ok .ensures .value ∙ ran .0) i, (c .is-ok-2 .ensures .value ∙ ran .1) i, ran .2 i)
