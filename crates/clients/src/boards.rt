@@ -1,4 +1,4 @@
-// Boards put together from the parts, with what becomes of some writes.
+// A board put together from the parts, with what becomes of some writes.
 ghost use mathlib.Core.Path.{_≡_};
 ghost use mathlib.Core.Bool.{true};
 ghost use Rattle.std.specs.declared.result.Result.the-variants.{Err};

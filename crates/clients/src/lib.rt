@@ -1,4 +1,4 @@
-// Code over any home and any source, proved from what they mean alone, and boards put together from the parts.
+// Code over any home and any source, proved from what they mean alone; memory images; and a board put together from the parts.
 pub mod boards;
 pub mod copying;
 pub mod images;

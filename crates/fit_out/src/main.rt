@@ -54,14 +54,16 @@ fn print_table(rt: &LibcRuntime, session: &mut Session<Memory<'_>>) -> io::Resul
     Ok(())
 }
 
+// Loads the input and prints the table, also where the input could not be read to its end.
 fn run(rt: &LibcRuntime) -> io::Result<()> {
     let mut bytes = [0; LENT];
     let homes = SideBySide::new(Plain::new(&mut bytes), WriteOnce::new());
     let mut session = Session::new(Allowance::new(homes, WRITES));
-    load_lines(rt, &mut session)?;
+    let ended = load_lines(rt, &mut session);
     print_table(rt, &mut session)?;
     let left = session.into_home().writes_left();
-    println!(rt, "writes left: {left}")
+    println!(rt, "writes left: {left}")?;
+    ended
 }
 
 fn main(rt: LibcRuntime) -> io::Result<()> {

@@ -3,10 +3,11 @@ use mathlib.Core.Path.{_≡_, refl, sym, ap, subst, fun-ext, _∙_}
 use mathlib.Core.Bool.{cond}
 use mathlib.Core.List.{List, [], _∷_, _++_}
 use mathlib.Core.Logic.{⊎-elim}
-use Prim.Native.Nat.{ℕ, zero, suc, _-_, _<_, _≤_}
+use Prim.Native.Nat.{ℕ, _-_, _<_, _≤_}
 use native.Mathlib.Omega.{arith}
 use lib.Dec.{ltb}
 use lib.ListN.{length, getD, set, take, length-take, length-append}
+use lib.Seq.{take-set-lt}
 use Rattle.std.specs.declared.option.Option.{Option}
 use Rattle.std.specs.declared.option.Option.the-variants.{Some, None}
 use Rattle.std.specs.declared.result.Result.{Result}
@@ -15,16 +16,10 @@ use Rattle.std.proofs.shelf.Tests.{lt-ltb, le-ltb, cond-true, cond-false, cases
 use Rattle.interfaces.specs.declared.fault.Fault.{Fault}
 use Rattle.interfaces.specs.Faults.{raised, answer, passed-up}
 use Rattle.interfaces.specs.Homes.{Meaning, read-fault, place-after, write-fault, written, unless, after-write}
-use Rattle.interfaces.proofs.Inside.{readable, place-read, verdict-inside, passes}
+use Rattle.interfaces.proofs.Calls.{readable, place-read, verdict-inside, passes}
 use Rattle.homes.specs.declared.side_by_side.Side.{Side}
 use Rattle.homes.specs.declared.side_by_side.Side.the-variants.{First, Second}
 use Rattle.homes.specs.Sides.{side-of, Read-at, Written-at, in-first, in-second, beside}
-
-take-set : {X : Type 0} (n : ℕ) (l : List X) (i : ℕ) (x : X) → take n (set l i x) ≡ set (take n l) i x
-take-set zero l i x = refl
-take-set (suc n) [] i x = refl
-take-set (suc n) (y ∷ l) zero x = refl
-take-set (suc n) (y ∷ l) (suc i) x = ap (λ m. y ∷ m) (take-set n l i x)
 
 -- the verdicts of two homes, the first of which counts n
 abbrev either : ℕ → (List ℕ → ℕ → Option Fault) → (List ℕ → ℕ → Option Fault) → List ℕ → List ℕ → ℕ → Option Fault
@@ -53,24 +48,24 @@ fault-second : (a b : Meaning) (k : ℕ) → length (a .bodies) ≤ k → k < le
 unfolding beside
 fault-second a b k h l = verdict-inside (beside a b) k l ∙ ap raised (cond-false _ _ _ (le-ltb k (length (a .bodies)) h) ∙ sym (verdict-inside b (k - length (a .bodies)) (within a b k l .1 h)))
 
-written-first : (a b : Meaning) (k : ℕ) (body : List ℕ) → k < length (a .bodies) → beside (written a k body) b ≡ written (beside a b) k body
+written-first : (a b : Meaning) (k : ℕ) (body : List ℕ) → k < length (a .bodies) → k < 65535 → beside (written a k body) b ≡ written (beside a b) k body
 unfolding beside
-written-first a b k body h =
+written-first a b k body h w =
     let n = length (a .bodies) in
     let held : take 65535 (set (a .bodies) k body ++ b .bodies) ≡ set (take 65535 (a .bodies ++ b .bodies)) k body =
-    ap (take 65535) (sym (set-append-left (a .bodies) (b .bodies) k body h)) ∙ take-set 65535 (a .bodies ++ b .bodies) k body in
+    ap (take 65535) (sym (set-append-left (a .bodies) (b .bodies) k body h)) ∙ take-set-lt 65535 (a .bodies ++ b .bodies) k body w in
     let says : beside (written a k body) b .verdict ≡ written (beside a b) k body .verdict = fun-ext (λ hs. fun-ext (λ j.
     ap (λ m. either m (a .verdict) (b .verdict) (k ∷ in-first m hs) (in-second m hs) j) (length-set (a .bodies) k body) ∙
     ap (λ f. either n (a .verdict) (b .verdict) f (in-second n hs) j) (sym (cond-true _ _ _ (lt-ltb k n h))) ∙
     ap (λ s. either n (a .verdict) (b .verdict) (in-first n (k ∷ hs)) s j) (sym (cond-true _ _ _ (lt-ltb k n h))))) in
     λ i. record { bodies = held i; verdict = says i }
 
-written-second : (a b : Meaning) (k : ℕ) (body : List ℕ) → length (a .bodies) ≤ k → beside a (written b (k - length (a .bodies)) body) ≡ written (beside a b) k body
+written-second : (a b : Meaning) (k : ℕ) (body : List ℕ) → length (a .bodies) ≤ k → k < 65535 → beside a (written b (k - length (a .bodies)) body) ≡ written (beside a b) k body
 unfolding beside
-written-second a b k body h =
+written-second a b k body h w =
     let n = length (a .bodies) in
     let held : take 65535 (a .bodies ++ set (b .bodies) (k - n) body) ≡ set (take 65535 (a .bodies ++ b .bodies)) k body =
-    ap (take 65535) (sym (set-append-right (a .bodies) (b .bodies) n k body refl h)) ∙ take-set 65535 (a .bodies ++ b .bodies) k body in
+    ap (take 65535) (sym (set-append-right (a .bodies) (b .bodies) n k body refl h)) ∙ take-set-lt 65535 (a .bodies ++ b .bodies) k body w in
     let says : beside a (written b (k - n) body) .verdict ≡ written (beside a b) k body .verdict = fun-ext (λ hs. fun-ext (λ j.
     ap (λ f. either n (a .verdict) (b .verdict) f ((k - n) ∷ in-second n hs) j) (sym (cond-false _ _ _ (le-ltb k n h))) ∙
     ap (λ s. either n (a .verdict) (b .verdict) (in-first n (k ∷ hs)) s j) (sym (cond-false _ _ _ (le-ltb k n h))))) in
@@ -83,12 +78,12 @@ step (Some _) m′ m n j f e e′ = e
 
 after-first : (a b : Meaning) (k : ℕ) (body : List ℕ) → k < length (a .bodies) → k < length (beside a b .bodies) → beside (after-write a k body) b ≡ after-write (beside a b) k body
 after-first a b k body h l =
-    step (write-fault a k) (written a k body) a (written (beside a b) k body) (beside a b) (λ m. beside m b) refl (written-first a b k body h) ∙
+    step (write-fault a k) (written a k body) a (written (beside a b) k body) (beside a b) (λ m. beside m b) refl (written-first a b k body h (within a b k l .0)) ∙
     sym (ap (λ o. unless o (beside a b) (written (beside a b) k body)) (fault-first a b k h l))
 
 after-second : (a b : Meaning) (k : ℕ) (body : List ℕ) → length (a .bodies) ≤ k → k < length (beside a b .bodies) → beside a (after-write b (k - length (a .bodies)) body) ≡ after-write (beside a b) k body
 after-second a b k body h l =
-    step (write-fault b (k - length (a .bodies))) (written b (k - length (a .bodies)) body) b (written (beside a b) k body) (beside a b) (beside a) refl (written-second a b k body h) ∙
+    step (write-fault b (k - length (a .bodies))) (written b (k - length (a .bodies)) body) b (written (beside a b) k body) (beside a b) (beside a) refl (written-second a b k body h (within a b k l .0)) ∙
     sym (ap (λ o. unless o (beside a b) (written (beside a b) k body)) (fault-second a b k h l))
 
 -- the side of a record below the first's count, and of one from there on

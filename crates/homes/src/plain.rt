@@ -25,7 +25,8 @@ impl<'a> Plain<'a> {
         Plain { bytes }
     }
 
-    // The bytes of a record that is there.
+    // What a record that is there holds. It is a method of its own since the prover loses what a lent row holds where it is
+    // lent on within a method that takes `&mut self`.
     fn load(&self, number: u16) -> [u8; 16]
         requires { ⌜ number < length (bodies-of (now (now self .bytes))) ⌝ }
         ensures { λ r. ⌜ r ≡ getD (bodies-of (now (now (self .entry) .bytes))) number [] ⌝ }

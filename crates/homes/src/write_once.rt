@@ -1,8 +1,6 @@
 // A home with 64 records of its own, each of which takes one write.
-ghost use Prim.Native.Nat.{_<_};
 ghost use mathlib.Core.Path.{_≡_};
-ghost use mathlib.Core.List.{[]};
-ghost use lib.ListN.{length, getD, replicate};
+ghost use lib.ListN.{replicate};
 ghost use Rattle.homes.specs.Bodies.{bodies-of};
 ghost use Rattle.homes.specs.WriteOnces.{once, once-new, once-sound};
 use crate::records;
@@ -33,14 +31,6 @@ impl WriteOnce {
             used: [false; 64],
         }
     }
-
-    // What a record that is there holds.
-    fn load(&self, number: u16) -> [u8; 16]
-        requires { ⌜ number < length (bodies-of (now self .bytes)) ⌝ }
-        ensures { λ r. ⌜ r ≡ getD (bodies-of (now (self .entry) .bytes)) number [] ⌝ }
-    {
-        records::load(&self.bytes, number)
-    }
 }
 
 pub impl Home for WriteOnce as WriteOnceHome {
@@ -54,7 +44,7 @@ pub impl Home for WriteOnce as WriteOnceHome {
 
     fn read(&mut self, number: u16, place: &mut [u8; 16]) -> Result<(), Fault> {
         self.inside(number)?;
-        *place = self.load(number);
+        *place = records::load(&self.bytes, number);
         Ok(())
     }
 

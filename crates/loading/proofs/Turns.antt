@@ -1,6 +1,6 @@
 -- One more turn.
 use mathlib.Core.Path.{_≡_, refl, sym, ap, subst, _∙_}
-use mathlib.Core.Bool.{Bool, true, false, _||_}
+use mathlib.Core.Bool.{Bool, true, false, _||_, or-true, or-false, or-assoc}
 use mathlib.Core.List.{List, [], _∷_, _++_}
 use mathlib.Core.Logic.{⊎-elim}
 use Prim.Native.Nat.{ℕ, _<_, _≤_}
@@ -15,7 +15,7 @@ use Rattle.std.proofs.shelf.Tests.{cases-eq, cases-lt, cond-true, cond-false, e
 use Rattle.interfaces.specs.declared.fault.Fault.{Fault}
 use Rattle.interfaces.specs.Homes.{Meaning, Well-formed, write-fault, written, unless}
 use Rattle.interfaces.specs.Faults.{answer}
-use Rattle.interfaces.proofs.Inside.{accepted-inside}
+use Rattle.interfaces.proofs.Calls.{accepted-inside}
 use Rattle.entries.specs.declared.Entry.{Entry}
 use Rattle.entries.specs.declared.BadLine.{BadLine}
 use Rattle.entries.specs.Entries.{entry-of}
@@ -26,21 +26,9 @@ body-snoc : (turns : List Turn) (t : Turn) (k : ℕ) (body : List ℕ) → body-
 body-snoc [] t k body = refl
 body-snoc (u ∷ turns) t k body = body-snoc turns t k (body-by (loaded u) k body)
 
-or-false : (b : Bool) → b || false ≡ b
-or-false true = refl
-or-false false = refl
-
-or-assoc : (a b c : Bool) → a || (b || c) ≡ (a || b) || c
-or-assoc true b c = refl
-or-assoc false b c = refl
-
-or-true : (b : Bool) → b || true ≡ true
-or-true true = refl
-or-true false = refl
-
 loaded-snoc : (turns : List Turn) (t : Turn) (k : ℕ) → loaded-in (turns ++ (t ∷ [])) k ≡ loaded-in turns k || is-of (loaded t) k
 loaded-snoc [] t k = or-false (is-of (loaded t) k)
-loaded-snoc (u ∷ turns) t k = ap (λ b. is-of (loaded u) k || b) (loaded-snoc turns t k) ∙ or-assoc (is-of (loaded u) k) (loaded-in turns k) (is-of (loaded t) k)
+loaded-snoc (u ∷ turns) t k = ap (λ b. is-of (loaded u) k || b) (loaded-snoc turns t k) ∙ sym (or-assoc (is-of (loaded u) k) (loaded-in turns k) (is-of (loaded t) k))
 
 -- a turn that has loaded nothing
 shows-same : (first : List (List ℕ)) (turns : List Turn) (bodies : List (List ℕ)) (marks : List Bool) (t : Turn) → loaded t ≡ None →

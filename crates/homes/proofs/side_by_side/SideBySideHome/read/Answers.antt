@@ -1,6 +1,6 @@
 use mathlib.Core.Path.{sym}
 use Rattle.std.specs.declared.result.Result.the-variants.{Ok}
-use Rattle.interfaces.proofs.Inside.{passed-on}
+use Rattle.interfaces.proofs.Calls.{passed-on}
 use Rattle.homes.proofs.Joins.{read-beside}
 use Rattle.homes.proofs.side_by_side.SideBySideHome.read.Needs as need
 

@@ -1,5 +1,5 @@
 use native.Mathlib.Omega.{arith}
-use Rattle.interfaces.proofs.Inside.{accepted-inside}
+use Rattle.interfaces.proofs.Calls.{accepted-inside}
 use Rattle.loading.proofs.session.Session.load.Needs as need
 
 pub index-self-record : need.index-self-record

@@ -1,4 +1,4 @@
--- What the calls of a home come to where the record is below the count, and where it is not.
+-- What the calls of a home come to: where the record is below the count, where it is not, and one layer above.
 use mathlib.Core.Path.{_≡_, refl, sym, ap, _∙_}
 use mathlib.Core.List.{List, []}
 use mathlib.Core.Logic.{⊎-elim}
