@@ -17,6 +17,7 @@ pub struct Allowance<H> {
 impl<H: Home> Allowance<H> {
     pub fn new(below: H, writes: u32) -> Allowance<H>
         ensures means { λ r. ⌜ allowing (r .«writes_left») (H·Home .meaning (r .below)) ≡ allowing writes (H·Home .meaning below) ⌝ }
+        ensures held { λ r. ⌜ r .below ≡ below ⌝ }
         ensures left { λ r. ⌜ r .«writes_left» ≡ writes ⌝ }
     {
         Allowance {

@@ -39,7 +39,9 @@ fn joint_count(first: u16, second: u16) -> u16
 
 impl<A: Home, B: Home> SideBySide<A, B> {
     pub fn new(first: A, second: B) -> SideBySide<A, B>
-        ensures { λ r. ⌜ beside (A·Home .meaning (r .first)) (B·Home .meaning (r .second)) ≡ beside (A·Home .meaning first) (B·Home .meaning second) ⌝ }
+        ensures means { λ r. ⌜ beside (A·Home .meaning (r .first)) (B·Home .meaning (r .second)) ≡ beside (A·Home .meaning first) (B·Home .meaning second) ⌝ }
+        ensures first { λ r. ⌜ r .first ≡ first ⌝ }
+        ensures second { λ r. ⌜ r .second ≡ second ⌝ }
     {
         SideBySide { first, second }
     }
