@@ -3,3 +3,4 @@ pub mod boards;
 pub mod copying;
 pub mod images;
 pub mod stamping;
+pub mod writing;
