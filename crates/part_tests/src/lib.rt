@@ -1,4 +1,5 @@
 // Examples of the parts, as tests.
+#![tactic(auto)]
 #[cfg(test)]
 mod faults;
 #[cfg(test)]
