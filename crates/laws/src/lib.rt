@@ -1,4 +1,6 @@
 // The laws over whole runs of the store, named one by one. The code runs nothing: each contract is a theorem, proved in proofs/.
+#![tactic(auto)]
+
 ghost use Rattle.laws.specs.Laws.{EqualFinds, HeldBytes, NoWriteLost, DraftsOwn, LogsInOrder};
 ghost use Rattle.laws.specs.Theorems.{OfEveryRun, OfEveryWorld};
 

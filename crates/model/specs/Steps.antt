@@ -1,5 +1,5 @@
 -- What each call comes to: its answer, the world after it, and which stamp it draws. Refusals are tested in the order written.
-use Rattle.std.specs.Prelude.{ℕ, ◌+◌, ◌%◌, ◌<◌, ◌≤◌, Bool, true, false, cond, not, ◌||◌, List, length, Some, None, Option, ◌==◌, nat_le, nat_lt}
+use Rattle.std.specs.Prelude.{ℕ, ◌+◌, ◌<◌, ◌≤◌, Bool, true, false, cond, not, ◌||◌, List, length, Some, None, Option, ◌==◌, nat_le, nat_lt}
 use Rattle.interfaces.specs.declared.fault.Fault.{Fault}
 use Rattle.interfaces.specs.Homes as home
 use Rattle.interfaces.specs.Stamps.{top}

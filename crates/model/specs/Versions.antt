@@ -1,5 +1,5 @@
 -- The versions of a record, and the foremost of them that may be seen.
-use Rattle.std.specs.Prelude.{ℕ, ◌+◌, ◌/◌, ◌%◌, Bool, true, false, cond, List, map, Some, None, Option, ◌==◌, nat_le, nat_lt}
+use Rattle.std.specs.Prelude.{ℕ, ◌+◌, ◌/◌, ◌%◌, Bool, true, cond, List, map, Some, None, Option, ◌==◌, nat_le, nat_lt}
 use Rattle.std.specs.List.{range_with_len}
 use Rattle.order.specs.Order.{pick}
 use Rattle.order.specs.Kinds.{open_section_test, candidate_test}
@@ -14,7 +14,6 @@ use Rattle.model.specs.declared.slot.Slot.{Slot}
 use Rattle.model.specs.declared.slot.Master.{Master}
 use Rattle.model.specs.declared.slot.Hold.{Hold}
 use Rattle.model.specs.declared.slot.Hold.TheVariants.{OnMaster, OnSlot}
-use Rattle.model.specs.Tools.{on_some}
 use Rattle.model.specs.Worlds.{Entry, Section, World, master_entry, blank}
 
 -- the place of the slot of age i in a log whose oldest slot is at the place first: the oldest has age 0

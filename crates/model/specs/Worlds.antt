@@ -1,11 +1,10 @@
 -- The store with what it stands on, as plain data. Tables are functions; users are 0 to 7, and there are 64 masters at most.
-use Rattle.std.specs.Prelude.{ℕ, ◌+◌, min, cond, List, [], ◌++◌, length, take, drop, replicate, Some, None, Option, nat_lt, slice_index_or}
+use Rattle.std.specs.Prelude.{ℕ, ◌+◌, min, cond, List, [], ◌++◌, length, take, drop, replicate, None, Option, nat_lt, slice_index_or}
 use Rattle.interfaces.specs.Homes.{Meaning}
 use Rattle.model.specs.declared.body.Mark.TheVariants.{Present, Cleared}
 use Rattle.model.specs.declared.body.Body.{Body}
 use Rattle.model.specs.declared.slot.Slot.{Slot}
 use Rattle.model.specs.declared.slot.Hold.{Hold}
-use Rattle.model.specs.declared.slot.Hold.TheVariants.{Unset}
 use Rattle.model.specs.declared.slot.Master.{Master}
 use Rattle.model.specs.Tools.{put}
 

@@ -1,5 +1,5 @@
 -- The pick of a row by a test is what is picked of it by the order that the test decides.
-use Rattle.std.proofs.Common.{◌≡◌, ℕ, zero, suc, ◌<◌, Bool, true, false, cond, ◌⊎◌, List, [], ◌∷◌, length, get_or, Some, None, Decides, Option, sym, refl, ap, ◌∙◌, subst, inl, inr, ⊎_elim, arith, rules}
+use Rattle.std.proofs.Common.{◌≡◌, ℕ, zero, suc, ◌<◌, Bool, true, false, cond, ◌⊎◌, List, [], ◌∷◌, length, get_or, Some, None, Decides, Option, sym, refl, ap, ◌∙◌, subst, inl, inr, arith, rules}
 use borrow.Author.Tests.{clash}
 use Rattle.order.specs.Order.{In, Picked, Nearer, better, pick}
 use Rattle.order.specs.Kinds.{OpenSectionBefore, PlaceBefore, CandidateBefore, open_section_test, place_test, candidate_test}

@@ -18,7 +18,7 @@ pub trait Ranked {
 
 // Of a place and the best so far, the one that is kept.
 fn nearer<T: Ranked + Copy>(place: Option<T>, best: Option<T>) -> Option<T>
-    ensures { Nearer before place best result }
+    ensures { Nearer T.before place best result }
 {
     match (place, best) {
         (Some(x), Some(m)) => if x.precedes(&m) { place } else { best },
@@ -29,7 +29,7 @@ fn nearer<T: Ranked + Copy>(place: Option<T>, best: Option<T>) -> Option<T>
 
 // The member of the row that nothing in it is before; None where every place is empty.
 pub fn foremost<T: Ranked + Copy>(row: &[Option<T>]) -> Option<T>
-    ensures { Picked before row.now result }
+    ensures { Picked T.before row.now result }
 {
     let mut best = None;
     for place in row {
