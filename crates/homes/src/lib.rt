@@ -1,4 +1,6 @@
 // Homes: two memories at the bottom, and two layers that are homes over any homes.
+#![tactic(auto)]
+
 pub mod allowance;
 pub mod plain;
 mod records;

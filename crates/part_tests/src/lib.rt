@@ -1,4 +1,6 @@
 // Examples of the parts, as tests.
+#![tactic(auto)]
+
 #[cfg(test)]
 mod faults;
 #[cfg(test)]

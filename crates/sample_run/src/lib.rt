@@ -1,4 +1,5 @@
 // Runs of the store from its first hour, with the laws of the very turns that were made.
+#![tactic(auto)]
 ghost use Rattle.std.specs.Prelude.{◌≡◌};
 ghost use Rattle.laws.specs.Theorems.{GoesThrough};
 ghost use Rattle.store.specs.Did.{world};

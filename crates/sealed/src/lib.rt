@@ -1,4 +1,6 @@
 // A layer that takes no write: an example for whoever writes a home.
+#![tactic(auto)]
+
 ghost use Rattle.std.specs.Prelude.{◌≡◌};
 ghost use Rattle.sealed.specs.Seals.{sealed, sealed_sound};
 

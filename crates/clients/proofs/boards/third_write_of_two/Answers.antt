@@ -6,4 +6,4 @@ use Rattle.clients.proofs.boards.third_write_of_two.Goals as goal
 -- what the board means is known, and the three answers of that are computed
 pub returns : goal.returns
 unfolding bodies_of
-returns c = c.write-three.ensures.said ∙ ap (λ m. three_answers m 0 1 1 (replicate 16 1)) c.allowance-of-two-home.ensures
+returns c = c.write_three.ensures.said ∙ ap (λ m. three_answers m 0 1 1 (replicate 16 1)) c.allowance_of_two-home.ensures

@@ -3,4 +3,4 @@ use Rattle.homes.specs.Bodies.{length_bodies}
 use Rattle.homes.proofs.records.count_in.Goals as goal
 
 pub returns : goal.returns
-returns c = c.records-in.ensures ∙ sym (length_bodies c.args.bytes.now)
+returns c = c.records_in.ensures ∙ sym (length_bodies c.args.bytes.now)

@@ -4,10 +4,10 @@ use Rattle.store.proofs.Stepping.{not_own, broke}
 use Rattle.store.proofs.Collecting.{collect_done}
 use Rattle.store.proofs.store.Store.collect.Goals as goal
 
-pub returns-in-err-user : goal.returns-in-err-user
-returns-in-err-user g c door =
-    let told = c.in-err-user.ensures in
-    rw (broke c.from-residual.result _ c.from-residual.ensures.1) (not_own (Collect c.args.user) (ap not told.0) told.1 tt)
+pub returns-in_err-user : goal.returns-in_err-user
+returns-in_err-user g c door =
+    let told = c.in_err-user.ensures in
+    rw (broke c.from_residual.result _ c.from_residual.ensures.1) (not_own (Collect c.args.user) (ap not told.0) told.1 tt)
 
 pub returns : goal.returns
-returns g c door = collect_done c.in-ok-user.ensures c.clear-oldest.ensures
+returns g c door = collect_done c.in_ok-user.ensures c.clear_oldest.ensures

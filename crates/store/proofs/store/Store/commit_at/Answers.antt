@@ -4,10 +4,10 @@ use Rattle.store.proofs.Stepping.{not_own, broke}
 use Rattle.store.proofs.Settling.{commit_does}
 use Rattle.store.proofs.store.Store.commit_at.Goals as goal
 
-pub returns-in-err-user : goal.returns-in-err-user
-returns-in-err-user g c =
-    let told = c.in-err-user.ensures in
-    rw (broke c.from-residual.result _ c.from-residual.ensures.1) (not_own (Commit c.args.user) (ap not told.0) told.1 tt)
+pub returns-in_err-user : goal.returns-in_err-user
+returns-in_err-user g c =
+    let told = c.in_err-user.ensures in
+    rw (broke c.from_residual.result _ c.from_residual.ensures.1) (not_own (Commit c.args.user) (ap not told.0) told.1 tt)
 
 pub returns : goal.returns
-returns g c = commit_does c.in-ok-user.ensures c.commit-for.ensures
+returns g c = commit_does c.in_ok-user.ensures c.commit_for.ensures

@@ -26,7 +26,7 @@ returns c =
     let t = c.args.self.now in
     let xs = c.loop-cell.row in
     let f = cell (slots_of t.logs) (oldest_of t.logs) (masters_of t.masters) c.args.number c.args.limit in
-    let last : c.if-within.result ≡ f 64 = c.if-within.ensures ∙ ap (λ (m : MasterRow). if_within c.args.limit m.version Master) c.get.ensures in
-    let whole = fill_by_all f (set xs 64 c.if-within.result) 65 None (length-set xs 64 _ ∙ c.loop-cell.invariant.0)
+    let last : c.if_within.result ≡ f 64 = c.if_within.ensures ∙ ap (λ (m : MasterRow). if_within c.args.limit m.version Master) c.get.ensures in
+    let whole = fill_by_all f (set xs 64 c.if_within.result) 65 None (length-set xs 64 _ ∙ c.loop-cell.invariant.0)
     (filled_more f None xs 64 _ (omega arith) last (λ j h. c.loop-cell.invariant.1 j (omega arith))) in
     sym (candidate_picked _ _ c.foremost.ensures) ∙ ap (λ (l : List (Option Candidate)). pick candidate_test l) whole

@@ -9,7 +9,7 @@ returns-in-Master c =
     let i = c.args.self.now in
     let r = c.args.number in
     let v = c.args.candidate.version in
-    let told = c.seen-master.ensures in
+    let told = c.seen_master.ensures in
     record {
       hold = λ home high. told.hold home high ∙ ap (λ (p : Place). (seen_at (world_of home high i) r v p).hold) (sym c.in-Master.is);
       version = λ home high. told.version home high ∙ ap (λ (p : Place). (seen_at (world_of home high i) r v p).entry.version) (sym c.in-Master.is);

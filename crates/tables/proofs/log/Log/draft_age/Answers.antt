@@ -16,8 +16,8 @@ loop-age-preserved c =
     let failed : t c.loop-age.age ≡ false = cc in
     least_next t c.loop-age.age c.loop-age.invariant failed
 
-pub returns-then-is-draft-of : goal.returns-then-is-draft-of
-returns-then-is-draft-of c =
+pub returns-then-is_draft_of : goal.returns-then-is_draft_of
+returns-then-is_draft_of c =
     let l = c.args.self.now in
     let t : ℕ → Bool = λ i. draft_of c.args.number (places_of l (place_of l.first i)) in
     let passed : t c.loop-age.age ≡ true = cc in

@@ -16,8 +16,8 @@ loop-age-preserved c =
     let failed : t c.loop-age.age ≡ false = cc in
     least_next t c.loop-age.age c.loop-age.invariant failed
 
-pub returns-then-is-free : goal.returns-then-is-free
-returns-then-is-free c =
+pub returns-then-is_free : goal.returns-then-is_free
+returns-then-is_free c =
     let l = c.args.self.now in
     let t : ℕ → Bool = λ i. not (is_some (places_of l (place_of l.first i))) in
     let passed : t c.loop-age.age ≡ true = cc in

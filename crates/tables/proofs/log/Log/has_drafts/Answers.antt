@@ -16,8 +16,8 @@ loop-age-preserved c =
     let failed : t c.loop-age.age ≡ false = cc in
     least_next t c.loop-age.age c.loop-age.invariant failed
 
-pub returns-then-is-draft : goal.returns-then-is-draft
-returns-then-is-draft c =
+pub returns-then-is_draft : goal.returns-then-is_draft
+returns-then-is_draft c =
     let l = c.args.self.now in
     let t : ℕ → Bool = λ i. any_draft (places_of l (place_of l.first i)) in
     let passed : t c.loop-age.age ≡ true = cc in

@@ -7,6 +7,6 @@ returns c =
     let xs = c.args.self.now.all in
     let u = c.number.result in
     rw (← c.number.ensures) (record {
-      slots = slots_put xs u c.free-oldest.new.self (omega arith) _ None c.free-oldest.ensures.slots;
-      oldest = oldest_put xs u c.free-oldest.new.self (omega arith) _ c.free-oldest.ensures.first;
+      slots = slots_put xs u c.free_oldest.new.self (omega arith) _ None c.free_oldest.ensures.slots;
+      oldest = oldest_put xs u c.free_oldest.new.self (omega arith) _ c.free_oldest.ensures.first;
     })
