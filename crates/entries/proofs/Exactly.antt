@@ -1,6 +1,6 @@
 -- The lines that give an entry are those that spell it.
 use Rattle.std.proofs.Common.{◌≡◌, ℕ, ◌+◌, ◌-◌, ◌<◌, ◌≤◌, Bool, true, false, eqb, ltb, ◌⊎◌, List, [], ◌∷◌, ◌++◌, length, get_or, take, drop, Ok, Err, Result, sym, refl, ap, ◌∙◌, inl, inr, append_assoc, arith, length-append}
-use Rattle.std.specs.List.{AllByRecursion as All}
+use Rattle.std.specs.List.{AllByRecursion}
 use Rattle.std.proofs.ByRecursion.{All-get_or}
 use Rattle.std.proofs.lemmas.List.{append-nil, get_or_push, get_or-append_right, length_push, take_all, take_at, take_more}
 use Rattle.std.proofs.lemmas.Bool.{and_from, and_parts, and_right, cases_Bool, cond-true, cond-false, eq-eqb, eqb-true, le-leb, leb-true, lt-ltb, ltb-true, ne_eqb}
@@ -15,24 +15,24 @@ use Rattle.entries.proofs.Leads.{leading_decimal, leading_and_following}
 
 -- from a line that spells an entry to the entry
 
-leading_is : (ds hs : List ℕ) → All Decimal ds → leading (ds ++ 32 ∷ hs) ≡ ds
+leading_is : (ds hs : List ℕ) → AllByRecursion Decimal ds → leading (ds ++ 32 ∷ hs) ≡ ds
 leading_is [] hs h = refl
 leading_is (d ∷ ds) hs h = cond-true _ _ _ h.0 ∙ ap (λ l. d ∷ l) (leading_is ds hs h.1)
 
-following_is : (ds hs : List ℕ) → All Decimal ds → following (ds ++ 32 ∷ hs) ≡ 32 ∷ hs
+following_is : (ds hs : List ℕ) → AllByRecursion Decimal ds → following (ds ++ 32 ∷ hs) ≡ 32 ∷ hs
 following_is [] hs h = refl
 following_is (d ∷ ds) hs h = cond-true _ _ _ h.0 ∙ following_is ds hs h.1
 
 record_is : (ds : List ℕ) → 0 < length ds → number ds ≤ 65535 → record_of ds ≡ Ok (number ds)
 record_is ds some small = cond-true _ _ _ (lt-ltb 0 (length ds) some) ∙ cond-true _ _ _ (le-leb (number ds) 65535 small)
 
-body_is : (hs : List ℕ) → length hs ≡ 32 → All Hexadecimal hs → body_of (32 ∷ hs) ≡ Ok (pair_values hs)
+body_is : (hs : List ℕ) → length hs ≡ 32 → AllByRecursion Hexadecimal hs → body_of (32 ∷ hs) ≡ Ok (pair_values hs)
 body_is hs long h =
     cond-true _ _ _ (and_from _ _ (lt-ltb 0 (length (32 ∷ hs)) (omega arith)) (eq-eqb 32 32 refl))
     ∙ cond-true _ _ _ (eq-eqb (length hs) 32 long)
     ∙ cond-true _ _ _ (test_from_all hs h)
 
-pub entry_in_is : (ds hs : List ℕ) → 0 < length ds → All Decimal ds → number ds ≤ 65535 → length hs ≡ 32 → All Hexadecimal hs → entry_in (ds ++ 32 ∷ hs) ≡ Ok (record { «record» = number ds; body = pair_values hs })
+pub entry_in_is : (ds hs : List ℕ) → 0 < length ds → AllByRecursion Decimal ds → number ds ≤ 65535 → length hs ≡ 32 → AllByRecursion Hexadecimal hs → entry_in (ds ++ 32 ∷ hs) ≡ Ok (record { «record» = number ds; body = pair_values hs })
 entry_in_is ds hs some decimal small long hex =
     let front = ap record_of (leading_is ds hs decimal) ∙ record_is ds some small in
     let back = ap body_of (following_is ds hs decimal) ∙ body_is hs long hex in
@@ -42,7 +42,7 @@ hexadecimal_not_return : (c : ℕ) → Hexadecimal c → c ≡ 13 → ⊥
 hexadecimal_not_return c h e = grind (arith, nat_tests)
 
 -- a line that ends in a hexadecimal digit stays as it is
-pub return_none : (ds hs : List ℕ) → length hs ≡ 32 → All Hexadecimal hs → without_return (ds ++ 32 ∷ hs) ≡ ds ++ 32 ∷ hs
+pub return_none : (ds hs : List ℕ) → length hs ≡ 32 → AllByRecursion Hexadecimal hs → without_return (ds ++ 32 ∷ hs) ≡ ds ++ 32 ∷ hs
 return_none ds hs long hex =
     let n = length-append ds (32 ∷ hs) in
     let at : length (ds ++ 32 ∷ hs) - 1 - length ds ≡ 32 = omega arith in
@@ -58,7 +58,7 @@ return_one text =
     cond-true _ _ _ (and_from _ _ (lt-ltb 0 (length (text ++ 13 ∷ [])) (omega arith)) (eq-eqb _ 13 (get_or_push text 13 0 _ (sym last))))
     ∙ take_at text (13 ∷ []) _ (sym last)
 
-text_of : (ds hs end line : List ℕ) → length hs ≡ 32 → All Hexadecimal hs → line ≡ ds ++ ((32 ∷ hs) ++ end) → (end ≡ []) ⊎ (end ≡ 13 ∷ []) → without_return line ≡ ds ++ 32 ∷ hs
+text_of : (ds hs end line : List ℕ) → length hs ≡ 32 → AllByRecursion Hexadecimal hs → line ≡ ds ++ ((32 ∷ hs) ++ end) → (end ≡ []) ⊎ (end ≡ 13 ∷ []) → without_return line ≡ ds ++ 32 ∷ hs
 text_of ds hs end line long hex is (inl none) =
     let same = is ∙ ap (λ e. ds ++ ((32 ∷ hs) ++ e)) none ∙ ap (λ l. ds ++ l) (append-nil (32 ∷ hs)) in
     ap without_return same ∙ return_none ds hs long hex
@@ -104,7 +104,7 @@ numbers ds n e =
 pub record Bodies (rest : List ℕ) (bytes : List ℕ) : Type 0 where
   pub blank : rest ≡ 32 ∷ drop 1 rest
   pub long : length (drop 1 rest) ≡ 32
-  pub hexadecimal : All Hexadecimal (drop 1 rest)
+  pub hexadecimal : AllByRecursion Hexadecimal (drop 1 rest)
   pub is : bytes ≡ pair_values (drop 1 rest)
 
 blank_first : (rest : List ℕ) → begins_with 32 rest ≡ true → rest ≡ 32 ∷ drop 1 rest

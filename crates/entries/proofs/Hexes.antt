@@ -1,16 +1,16 @@
 -- Hexadecimal digits, and the bytes that pairs of them write.
 use Rattle.std.proofs.Common.{◌≡◌, ℕ, ◌+◌, ◌*◌, ◌<◌, ◌≤◌, true, false, ◌&&◌, List, [], ◌∷◌, ◌++◌, length, get_or, take, drop, set, sym, refl, ap, ◌∙◌, append_assoc, arith}
-use Rattle.std.specs.List.{AllByRecursion as All}
+use Rattle.std.specs.List.{AllByRecursion}
 use Rattle.std.proofs.lemmas.List.{at_drop_more, at_drop_all, drop_more, take_all, take_more_set, append-nil}
 use Rattle.std.proofs.lemmas.Bool.{and_parts, and_from, and_left}
 use Rattle.entries.specs.Digits.{is_hexadecimal, Hexadecimal, hex_value, pair_values}
 use Rattle.entries.specs.Entries.{all_hexadecimal}
 
-pub all_from_test : (cs : List ℕ) → all_hexadecimal cs ≡ true → All Hexadecimal cs
+pub all_from_test : (cs : List ℕ) → all_hexadecimal cs ≡ true → AllByRecursion Hexadecimal cs
 all_from_test [] e = tt
 all_from_test (c ∷ cs) e = let both = and_parts (is_hexadecimal c) (all_hexadecimal cs) e in (both.0, all_from_test cs both.1)
 
-pub test_from_all : (cs : List ℕ) → All Hexadecimal cs → all_hexadecimal cs ≡ true
+pub test_from_all : (cs : List ℕ) → AllByRecursion Hexadecimal cs → all_hexadecimal cs ≡ true
 test_from_all [] h = refl
 test_from_all (c ∷ cs) h = and_from (is_hexadecimal c) (all_hexadecimal cs) h.0 (test_from_all cs h.1)
 

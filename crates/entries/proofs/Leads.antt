@@ -1,6 +1,6 @@
 -- The decimal digits that a text begins with, and what follows them.
 use Rattle.std.proofs.Common.{◌≡◌, ℕ, ◌+◌, ◌<◌, ◌≤◌, true, false, cond, List, [], ◌∷◌, ◌++◌, length, get_or, take, drop, refl, ap, ◌∙◌, arith}
-use Rattle.std.specs.List.{AllByRecursion as All}
+use Rattle.std.specs.List.{AllByRecursion}
 use Rattle.std.proofs.lemmas.List.{at_drop_more, at_drop_all}
 use Rattle.std.proofs.lemmas.Bool.{cond-true, cond-false, cond_both}
 use Rattle.entries.specs.Digits.{is_decimal, Decimal}
@@ -21,9 +21,9 @@ leading_le (c ∷ cs) =
     let less = leading_le cs in
     cond_both (is_decimal c) (c ∷ leading cs) [] (λ l. length l ≤ length (c ∷ cs)) (λ _. omega arith) (λ _. omega arith)
 
-pub leading_decimal : (xs : List ℕ) → All Decimal (leading xs)
+pub leading_decimal : (xs : List ℕ) → AllByRecursion Decimal (leading xs)
 leading_decimal [] = tt
-leading_decimal (c ∷ cs) = cond_both (is_decimal c) (c ∷ leading cs) [] (All Decimal) (λ e. (e, leading_decimal cs)) (λ _. tt)
+leading_decimal (c ∷ cs) = cond_both (is_decimal c) (c ∷ leading cs) [] (AllByRecursion Decimal) (λ e. (e, leading_decimal cs)) (λ _. tt)
 
 pub take_leading : (xs : List ℕ) → take (length (leading xs)) xs ≡ leading xs
 take_leading [] = refl

@@ -1,6 +1,6 @@
 -- The line that is shown of an entry gives that entry.
 use Rattle.std.proofs.Common.{◌≡◌, ℕ, ◌+◌, ◌*◌, ◌/◌, ◌%◌, ◌^◌, ◌<◌, ◌≤◌, List, [], ◌∷◌, ◌++◌, length, Ok, decimal, refl, ap, ◌∙◌, arith, rules}
-use Rattle.std.specs.List.{AllByRecursion as All}
+use Rattle.std.specs.List.{AllByRecursion}
 use Rattle.std.proofs.lemmas.Bool.Decides.{nat_tests}
 use Rattle.std.proofs.lemmas.Fmt.{decimal_nonempty, digits_decimal, digits_value-decimal}
 use Rattle.std.proofs.lemmas.Str.Parse.{IsNumeralModel, numerals_by_fold}
@@ -15,7 +15,7 @@ value_of_digit n h = grind (arith, nat_tests)
 digit_is : (n : ℕ) → n < 16 → Hexadecimal (hex_digit n)
 digit_is n h = grind (arith, nat_tests)
 
-pairs_of_spelled : (bs : List ℕ) → All (λ b. b < 256) bs → pair_values (spelled bs) ≡ bs
+pairs_of_spelled : (bs : List ℕ) → AllByRecursion (λ b. b < 256) bs → pair_values (spelled bs) ≡ bs
 pairs_of_spelled [] h = refl
 pairs_of_spelled (b ∷ bs) h =
     let byte = h.0 in
@@ -25,7 +25,7 @@ pairs_of_spelled (b ∷ bs) h =
     let rest = pairs_of_spelled bs h.1 in
     λ i. first i ∷ rest i
 
-hexadecimal_spelled : (bs : List ℕ) → All (λ b. b < 256) bs → All Hexadecimal (spelled bs)
+hexadecimal_spelled : (bs : List ℕ) → AllByRecursion (λ b. b < 256) bs → AllByRecursion Hexadecimal (spelled bs)
 hexadecimal_spelled [] h = tt
 hexadecimal_spelled (b ∷ bs) h = let byte = h.0 in (digit_is (b / 16) (omega arith), (digit_is (b % 16) (omega arith), hexadecimal_spelled bs h.1))
 
@@ -33,7 +33,7 @@ length_spelled : (bs : List ℕ) → length (spelled bs) ≡ 2 * length bs
 length_spelled [] = refl
 length_spelled (b ∷ bs) = let more = length_spelled bs in omega arith
 
-spelled_reads_back : (ds bytes : List ℕ) → 0 < length ds → All Decimal ds → number ds ≤ 65535 → length bytes ≡ 16 → All (λ b. b < 256) bytes →
+spelled_reads_back : (ds bytes : List ℕ) → 0 < length ds → AllByRecursion Decimal ds → number ds ≤ 65535 → length bytes ≡ 16 → AllByRecursion (λ b. b < 256) bytes →
     entry_of (ds ++ (32 ∷ spelled bytes)) ≡ Ok (record { «record» = number ds; body = bytes })
 spelled_reads_back ds bytes some decimal small sixteen each =
     let double = length_spelled bytes in
@@ -44,7 +44,7 @@ spelled_reads_back ds bytes some decimal small sixteen each =
     ∙ entry_in_is ds (spelled bytes) some decimal small long hex
     ∙ (λ i. Ok (record { «record» = number ds; body = same i }))
 
-own : IsNumeralModel (All Decimal) number
+own : IsNumeralModel (AllByRecursion Decimal) number
 own = numerals_by_fold _ (search rules) number_after (search rules)
 
 pub shown_reads_back : ShownReadsBack

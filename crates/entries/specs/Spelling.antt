@@ -1,6 +1,6 @@
 -- Which line spells which entry, in the words of the format.
 use Rattle.std.specs.Prelude.{◌≡◌, ℕ, ◌<◌, ◌≤◌, ◌⊎◌, List, [], ◌∷◌, ◌++◌, length, Ok, codes, decimal, Result}
-use Rattle.std.specs.List.{AllByRecursion as All}
+use Rattle.std.specs.List.{AllByRecursion}
 use Rattle.entries.specs.declared.BadLine.{BadLine}
 use Rattle.entries.specs.declared.Entry.{Entry}
 use Rattle.entries.specs.Digits.{Decimal, number, Hexadecimal, pair_values, spelled}
@@ -14,11 +14,11 @@ pub record Spells (line : List ℕ) (e : Entry) : Type 0 where
   pub ending : List ℕ
   pub is : line ≡ digits ++ ((32 ∷ hexes) ++ ending)
   pub some : 0 < length digits
-  pub decimal : All Decimal digits
+  pub decimal : AllByRecursion Decimal digits
   pub record_is : e.«record» ≡ number digits
   pub small : e.«record» ≤ 65535
   pub long : length hexes ≡ 32
-  pub hexadecimal : All Hexadecimal hexes
+  pub hexadecimal : AllByRecursion Hexadecimal hexes
   pub body_is : e.body ≡ pair_values hexes
   pub ends : (ending ≡ []) ⊎ (ending ≡ 13 ∷ [])
 
@@ -33,4 +33,4 @@ line_of e = decimal e.«record» ++ (codes " " ++ spelled e.body)
 
 -- the line that is shown of an entry gives that entry
 abbrev pub ShownReadsBack : Type 0
-ShownReadsBack = (e : Entry) → e.«record» ≤ 65535 → length e.body ≡ 16 → All (λ b. b < 256) e.body → entry_of (line_of e) ≡ Ok e
+ShownReadsBack = (e : Entry) → e.«record» ≤ 65535 → length e.body ≡ 16 → AllByRecursion (λ b. b < 256) e.body → entry_of (line_of e) ≡ Ok e

@@ -1,4 +1,6 @@
 // Lines of a loading list: a record number and the sixteen bytes of its body.
+#![tactic(auto)]
+
 ghost use Rattle.std.specs.Prelude.{◌≡◌, Some};
 ghost use Rattle.entries.specs.Digits.{spelled};
 ghost use Rattle.entries.specs.Entries.{entry_of};

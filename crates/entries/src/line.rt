@@ -1,6 +1,6 @@
 // The parts of a line: its record number, and the digits of its body.
 ghost use Rattle.std.specs.Prelude.{◌≡◌, true, length, drop, if◌then◌else◌, Some, None, nat_le};
-ghost use Rattle.std.specs.List.{AllByRecursion as All};
+ghost use Rattle.std.specs.List.{AllByRecursion};
 ghost use Rattle.entries.specs.Digits.{Decimal, number as number_in, pair_values};
 ghost use Rattle.entries.specs.Entries.{begins_with, without_return as trimmed, leading, following, all_hexadecimal, record_of, body_of};
 
@@ -32,7 +32,7 @@ fn count_digits(text: &[u8]) -> usize
 // The decimal digits that the text begins with, and what follows them.
 pub(crate) fn split_digits(text: &[u8]) -> (&[u8], &[u8])
     ensures digits { result.0.now ≡ leading text.now }
-    ensures decimal { All Decimal result.0.now }
+    ensures decimal { AllByRecursion Decimal result.0.now }
     ensures rest { result.1.now ≡ following text.now }
 {
     text.split_at(count_digits(text))
@@ -40,7 +40,7 @@ pub(crate) fn split_digits(text: &[u8]) -> (&[u8], &[u8])
 
 // The number that decimal digits write, where it is a record number.
 fn number_of(digits: &[u8]) -> Option<u16>
-    requires { All Decimal digits.now }
+    requires { AllByRecursion Decimal digits.now }
     ensures { result ≡ (if nat_le (number_in digits.now) 65535 then Some (number_in digits.now) else None) }
 {
     let mut number = 0;
@@ -52,7 +52,7 @@ fn number_of(digits: &[u8]) -> Option<u16>
 
 // The record number that the leading digits of a line write.
 pub(crate) fn read_record(digits: &[u8]) -> Result<u16, BadLine>
-    requires { All Decimal digits.now }
+    requires { AllByRecursion Decimal digits.now }
     ensures { result ≡ record_of digits.now }
 {
     if digits.is_empty() {

@@ -1,10 +1,14 @@
 // Lines that give an entry, and lines that do not.
+ghost use Rattle.std.specs.Prelude.{◌&&◌, nat_eq};
+ghost use Rattle.std.specs.Cmp.Lexicographic.{pointwise};
 ghost use Rattle.std.specs.Cmp.Rules.{comparing};
 ghost use Rattle.std.proofs.Common.{rules};
 
 use super::*;
 
 impl PartialEq for Entry {
+    ghost eq = { λ x y. nat_eq x.«record» y.«record» && pointwise nat_eq x.body y.body };
+
     ghost laws = { Prim.search (comparing, rules) };
 
     fn eq(&self, other: &Entry) -> bool {

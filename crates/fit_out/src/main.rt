@@ -1,4 +1,6 @@
 // Loads a swapped reader's memory from a list on standard input, and prints what was done.
+#![tactic(auto)]
+
 use entries::Entry;
 use homes::allowance::Allowance;
 use homes::plain::Plain;

@@ -86,7 +86,7 @@ impl<H: Home> Session<H> {
         ensures said { result ≡ reply_to (H.Home.meaning self.old.home) (entry_of line.now) }
         ensures home { H.Home.meaning self.new.home ≡ after_line (H.Home.meaning self.old.home) (entry_of line.now) }
         ensures loaded { self.new.loaded ≡ marks_after (H.Home.meaning self.old.home) (entry_of line.now) self.old.loaded }
-        ensures table { GoesOn (H.Home.meaning self.old.home).bodies self.old.loaded (record { line = line.entry.now; reply = result }) (H.Home.meaning self.new.home).bodies self.new.loaded }
+        ensures table { GoesOn (H.Home.meaning self.old.home).bodies self.old.loaded (record { line = line.now; reply = result }) (H.Home.meaning self.new.home).bodies self.new.loaded }
     {
         match read_entry(line) {
             Ok(wanted) => self.load(wanted),

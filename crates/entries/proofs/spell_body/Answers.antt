@@ -4,7 +4,7 @@ use Rattle.entries.proofs.spell_body.Goals as goal
 
 pub loop-k-preserved : goal.loop-k-preserved
 loop-k-preserved c = (
-  spelled_more c.loop-k.text c.args.body.now c.loop-k.k _ _ (omega arith) (omega arith) (ap (λ p. p.0) c.digits-of-high.ensures) (ap (λ p. p.1) c.digits-of-high.ensures) ∙ c.loop-k.invariant.0,
+  spelled_more c.loop-k.text c.args.body.now c.loop-k.k _ _ (omega arith) (omega arith) (ap (λ p. p.0) c.digits_of-high.ensures) (ap (λ p. p.1) c.digits_of-high.ensures) ∙ c.loop-k.invariant.0,
   length-set (set c.loop-k.text (2 * c.loop-k.k) _) (2 * c.loop-k.k + 1) _ ∙ length-set c.loop-k.text (2 * c.loop-k.k) _ ∙ c.loop-k.invariant.1,
 )
 

@@ -3,4 +3,4 @@ use Rattle.loading.proofs.Turns.{shows_first}
 use Rattle.loading.proofs.session.Session.new.Goals as goal
 
 pub returns : goal.returns
-returns g c = record { home = refl; loaded = c.none-loaded.ensures; table = shows_first _ _ c.none-loaded.ensures }
+returns g c = record { home = refl; loaded = c.none_loaded.ensures; table = shows_first _ _ c.none_loaded.ensures }
