@@ -1,5 +1,6 @@
 // The state of a store beside its home and its source: fixed tables of sections, logs and masters.
 #![tactic(auto)]
+
 mod change;
 pub mod hold_number;
 pub mod inner;

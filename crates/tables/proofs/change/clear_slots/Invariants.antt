@@ -1,8 +1,7 @@
 use Rattle.std.proofs.Common.{◌≡◌, get_or, None}
 use Rattle.model.specs.Tools.{on_some}
 use Rattle.model.specs.Worlds.{blank}
-use Rattle.model.specs.Drafts.{settled}
-use Rattle.tables.specs.View.{places_of, edited_slot, without_draft, written_within}
+use Rattle.tables.specs.View.{edited_slot}
 use Rattle.tables.proofs.Rows.{Halfway}
 use Rattle.tables.proofs.change.clear_slots.Given as goal
 

@@ -1,9 +1,6 @@
 use Rattle.std.proofs.Common.{None, sym, ap, arith}
 use Rattle.std.proofs.lemmas.List.{get_or_past}
-use Rattle.model.specs.Tools.{on_some}
-use Rattle.model.specs.Worlds.{blank}
-use Rattle.model.specs.Drafts.{settled}
-use Rattle.tables.specs.View.{places_of, edited_slot, without_draft, written_within}
+use Rattle.tables.specs.View.{without_draft}
 use Rattle.tables.proofs.Rows.{halfway_all}
 use Rattle.tables.proofs.change.remove_drafts.Goals as goal
 

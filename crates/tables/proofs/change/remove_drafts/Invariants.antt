@@ -1,8 +1,5 @@
 use Rattle.std.proofs.Common.{◌≡◌, get_or, None}
-use Rattle.model.specs.Tools.{on_some}
-use Rattle.model.specs.Worlds.{blank}
-use Rattle.model.specs.Drafts.{settled}
-use Rattle.tables.specs.View.{places_of, edited_slot, without_draft, written_within}
+use Rattle.tables.specs.View.{without_draft}
 use Rattle.tables.proofs.Rows.{Halfway}
 use Rattle.tables.proofs.change.remove_drafts.Given as goal
 

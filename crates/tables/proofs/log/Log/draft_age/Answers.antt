@@ -1,6 +1,6 @@
-use Rattle.std.proofs.Common.{◌≡◌, ℕ, Bool, true, false, not, sym, refl, ap, ◌∙◌, arith}
-use Rattle.model.specs.Tools.{least, is_some}
-use Rattle.model.specs.Drafts.{any_draft, draft_of}
+use Rattle.std.proofs.Common.{◌≡◌, ℕ, Bool, true, false, sym, ap, ◌∙◌, arith}
+use Rattle.model.specs.Tools.{least}
+use Rattle.model.specs.Drafts.{draft_of}
 use Rattle.model.specs.Versions.{place_of}
 use Rattle.tables.specs.View.{places_of}
 use Rattle.tables.proofs.Leasts.{least_begins, least_next, least_here}

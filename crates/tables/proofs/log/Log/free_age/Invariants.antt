@@ -1,6 +1,5 @@
 use Rattle.std.proofs.Common.{◌≡◌, not, None}
 use Rattle.model.specs.Tools.{least, is_some}
-use Rattle.model.specs.Drafts.{any_draft, draft_of}
 use Rattle.model.specs.Versions.{place_of}
 use Rattle.tables.specs.View.{places_of}
 use Rattle.tables.proofs.log.Log.free_age.Given as goal

@@ -1,4 +1,4 @@
-use Rattle.std.proofs.Common.{◌≡◌, ℕ, None, ap, ◌∙◌}
+use Rattle.std.proofs.Common.{ℕ, ◌∙◌}
 use mathlib.Core.Path.{fun_ext}
 use Rattle.tables.specs.declared.log.Log.{Log}
 use Rattle.tables.specs.View.{places_of, no_log}

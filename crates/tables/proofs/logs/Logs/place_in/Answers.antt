@@ -1,4 +1,4 @@
-use Rattle.std.proofs.Common.{◌≡◌, ◌%◌, sym, ap, ◌∙◌, zero-add, arith}
+use Rattle.std.proofs.Common.{◌%◌, sym, ap, ◌∙◌, zero-add, arith}
 use Rattle.std.proofs.lemmas.List.{get_or_past}
 use Rattle.model.specs.Versions.{place_of}
 use Rattle.tables.specs.declared.log.Log.{Log}

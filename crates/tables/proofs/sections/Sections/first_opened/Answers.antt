@@ -1,4 +1,4 @@
-use Rattle.std.proofs.Common.{◌≡◌, List, None, Option, sym, ap, ◌∙◌, arith}
+use Rattle.std.proofs.Common.{List, None, Option, sym, ap, ◌∙◌, arith}
 use Rattle.std.proofs.lemmas.List.FromFn.{fill_by_all}
 use Rattle.order.specs.Order.{pick}
 use Rattle.order.specs.Kinds.{open_section_test}
