@@ -49,8 +49,8 @@ fn hex_value(c: u8) -> u8
 
 // The byte that two hexadecimal digits write.
 pub(crate) fn byte_of(high: u8, low: u8) -> u8
-    requires hexadecimal { Hexadecimal high }
-    requires hexadecimal_2 { Hexadecimal low }
+    requires high { Hexadecimal high }
+    requires low { Hexadecimal low }
     ensures { result ≡ hex_value high * 16 + hex_value low }
 {
     hex_value(high) * 16 + hex_value(low)

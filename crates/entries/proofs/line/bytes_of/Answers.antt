@@ -8,8 +8,8 @@ pub byte_of-requires : goal.byte_of-requires
 byte_of-requires c =
     let all = all_from_test c.args.digits.now c.requires.hexadecimal in
     record {
-      hexadecimal = All-get_or Hexadecimal c.args.digits.now _ 0 (omega arith) all;
-      hexadecimal_2 = All-get_or Hexadecimal c.args.digits.now _ 0 (omega arith) all;
+      high = All-get_or Hexadecimal c.args.digits.now _ 0 (omega arith) all;
+      low = All-get_or Hexadecimal c.args.digits.now _ 0 (omega arith) all;
     }
 
 pub loop-k-preserved : goal.loop-k-preserved
