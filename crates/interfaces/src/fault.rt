@@ -15,23 +15,12 @@ pub enum Cause {
     AlreadyWritten = 3,
 }
 
-impl Cause {
-    // The number by which the cause is told to the outside.
-    pub fn number(self) -> u8
-        ensures { result ≡ cause_number self }
-    {
-        self as u8
-    }
+// The number by which a cause is told to the outside.
+impl From<Cause> for u8 {
+    ghost from_gives = { λ cause number. number ≡ cause_number cause };
 
-    // The cause in words.
-    fn words(self) -> &'static str
-        ensures { result.now ≡ cause_words self }
-    {
-        match self {
-            Cause::Outside => "outside",
-            Cause::AllowanceSpent => "allowance spent",
-            Cause::AlreadyWritten => "already written",
-        }
+    fn from(cause: Cause) -> u8 {
+        cause as u8
     }
 }
 
@@ -39,7 +28,11 @@ impl fmt::Display for Cause {
     ghost output = { λ cause. Some (cause_words cause) };
 
     fn fmt<W: fmt::Write>(&self, f: &mut fmt::Formatter<W>) -> fmt::Result {
-        f.write_str(self.words())
+        f.write_str(match self {
+            Cause::Outside => "outside",
+            Cause::AllowanceSpent => "allowance spent",
+            Cause::AlreadyWritten => "already written",
+        })
     }
 }
 
@@ -69,9 +62,8 @@ impl Fault {
         ensures { result ≡ deeper self }
     {
         Fault {
-            cause: self.cause,
             depth: self.depth.saturating_add(1),
-            number: self.number,
+            ..self
         }
     }
 }
@@ -80,19 +72,17 @@ impl Fault {
 pub fn passed_up(answer: Result<(), Fault>) -> Result<(), Fault>
     ensures { result ≡ passed_up answer }
 {
-    match answer {
-        Ok(()) => Ok(()),
-        Err(fault) => Err(fault.deeper()),
-    }
+    answer.map_err(Fault::deeper)
 }
 
 impl fmt::Display for Fault {
     ghost output = { λ fault. Some (fault_words fault) };
 
     fn fmt<W: fmt::Write>(&self, f: &mut fmt::Formatter<W>) -> fmt::Result {
-        let cause = self.cause;
-        let depth = self.depth;
-        let number = self.number;
-        write!(f, "{cause}, at depth {depth}, record {number}")
+        write!(
+            f,
+            "{}, at depth {}, record {}",
+            self.cause, self.depth, self.number
+        )
     }
 }

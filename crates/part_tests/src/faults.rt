@@ -19,9 +19,9 @@ fn depth_stops_at_255(rt: HostRuntime) {
 
 #[test]
 fn numbers_of_the_causes(rt: HostRuntime) {
-    assert_eq!(rt; Cause::Outside.number(), 1);
-    assert_eq!(rt; Cause::AllowanceSpent.number(), 2);
-    assert_eq!(rt; Cause::AlreadyWritten.number(), 3);
+    assert_eq!(rt; u8::from(Cause::Outside), 1);
+    assert_eq!(rt; u8::from(Cause::AllowanceSpent), 2);
+    assert_eq!(rt; u8::from(Cause::AlreadyWritten), 3);
 }
 
 #[test]
