@@ -1,5 +1,5 @@
 -- Causes, faults, and what a layer makes of a fault from below.
-use Rattle.std.specs.Prelude.{ℕ, ◌+◌, min, Some, None, Ok, Err, Option, Result}
+use Rattle.std.specs.Prelude.{ℕ, ◌+◌, min, Some, None, Ok, Err, Option, Result, option_map}
 use Rattle.interfaces.specs.declared.fault.Cause.{Cause}
 use Rattle.interfaces.specs.declared.fault.Cause.TheVariants.{Outside, AllowanceSpent, AlreadyWritten}
 use Rattle.interfaces.specs.declared.fault.Fault.{Fault}
@@ -20,8 +20,7 @@ deeper f = record { cause = f.cause; depth = min (f.depth + 1) 255; number = f.n
 
 -- a fault or none, one layer above
 abbrev pub raised : Option Fault → Option Fault
-raised None = None
-raised (Some f) = Some (deeper f)
+raised = option_map deeper
 
 -- a call's answer: refused with the fault, if there is one
 abbrev pub answer : Option Fault → Result Unit Fault

@@ -32,8 +32,7 @@ impl<H: Home> Home for Sealed<H> {
 
     fn read(&mut self, number: u16, place: &mut [u8; 16]) -> Result<(), Fault> {
         self.inside(number)?;
-        passed_up(self.below.read(number, place))?;
-        Ok(())
+        passed_up(self.below.read(number, place))
     }
 
     fn write(&mut self, number: u16, _body: [u8; 16]) -> Result<(), Fault> {

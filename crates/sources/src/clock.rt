@@ -4,10 +4,20 @@ ghost use Rattle.interfaces.specs.Stamps.{Marked, Drawn};
 ghost use Rattle.sources.specs.Given.{stamp_of, stamp_bounded, tick_of, clock_mark, clock_next};
 
 use interfaces::source::{Source, StampsSpent};
+use std::marker::Model;
 
 #[derive(Drop)]
 pub struct Clock {
     highest: u64,
+}
+
+// In a clause a clock is the highest stamp that it keeps.
+impl Model for Clock {
+    ghost use Rattle.std.specs.Prelude.{ℕ};
+
+    ghost Value = { ℕ };
+
+    ghost view = { λ s. s.highest };
 }
 
 impl Clock {
@@ -16,7 +26,7 @@ impl Clock {
 
     // A clock whose highest stamp so far is `highest`.
     pub fn new(highest: u64) -> Clock
-        ensures { stamp_of result.highest ≡ highest }
+        ensures { result ≡ highest }
     {
         Clock { highest }
     }
@@ -30,30 +40,28 @@ impl Clock {
 }
 
 impl Source for Clock {
-    ghost highest = { λ s. stamp_of s.highest };
+    ghost highest = { stamp_of };
 
-    ghost bounded = { λ s. stamp_bounded s.highest };
+    ghost bounded = { stamp_bounded };
 
     fn highest(&self) -> u64 {
         self.highest
     }
 
     fn mark(&mut self, tick: u64) -> u64
-        ensures lawful { Marked (stamp_of self.old.highest) result (stamp_of self.new.highest) }
-        ensures exact { result ≡ clock_mark (stamp_of self.old.highest) tick }
+        ensures lawful { Marked (stamp_of self.old) result (stamp_of self.new) }
+        ensures exact { result ≡ clock_mark (stamp_of self.old) tick }
     {
         self.highest = Clock::tick_of(tick).max(self.highest);
         self.highest
     }
 
     fn next(&mut self, tick: u64) -> Result<u64, StampsSpent>
-        ensures lawful { Drawn (stamp_of self.old.highest) result (stamp_of self.new.highest) }
-        ensures exact { result ≡ clock_next (stamp_of self.old.highest) tick }
+        ensures lawful { Drawn (stamp_of self.old) result (stamp_of self.new) }
+        ensures exact { result ≡ clock_next (stamp_of self.old) tick }
     {
-        if self.highest == u64::MAX {
-            return Err(StampsSpent);
-        }
-        self.highest = (self.highest + 1).max(Clock::tick_of(tick));
+        let above = self.highest.checked_add(1).ok_or(StampsSpent)?;
+        self.highest = above.max(Clock::tick_of(tick));
         Ok(self.highest)
     }
 }
