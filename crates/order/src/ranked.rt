@@ -2,7 +2,7 @@
 ghost use Rattle.std.specs.Prelude.{◌≡◌, Decides};
 ghost use Rattle.order.specs.Order.{Nearer, Picked};
 
-// A strict total order.
+// A strict total order. `Ord` alone does not say that two of which neither is before the other are one and the same.
 pub trait Ranked {
     ghost before: { Self → Self → Type 0 };
 
