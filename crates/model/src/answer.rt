@@ -12,12 +12,12 @@ pub enum State {
     DraftPresent,
 }
 
-impl State {
-    // The number by which the state is told to the outside.
-    pub fn number(self) -> u8
-        ensures { result ≡ state_number self }
-    {
-        self as u8
+// The number by which the state is told to the outside.
+impl From<State> for u8 {
+    ghost from_gives = { λ state number. number ≡ state_number state };
+
+    fn from(state: State) -> u8 {
+        state as u8
     }
 }
 
@@ -39,11 +39,11 @@ pub enum Collected {
     Freed,
 }
 
-impl Collected {
-    // The number by which the outcome is told to the outside.
-    pub fn number(self) -> u8
-        ensures { result ≡ collected_number self }
-    {
-        self as u8
+// The number by which the outcome is told to the outside.
+impl From<Collected> for u8 {
+    ghost from_gives = { λ outcome number. number ≡ collected_number outcome };
+
+    fn from(outcome: Collected) -> u8 {
+        outcome as u8
     }
 }

@@ -7,7 +7,7 @@ pub enum Mark {
     Cleared,
 }
 
-#[derive(Clone, Copy)]
+#[derive(Clone, Copy, PartialEq, Eq, Debug)]
 pub struct Body {
     pub bytes: [u8; 16],
     pub mark: Mark,

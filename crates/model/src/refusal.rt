@@ -32,12 +32,12 @@ pub enum Refusal {
     HomeRefused(Fault),
 }
 
-impl Refusal {
-    // The number by which the refusal is told to the outside.
-    pub fn number(&self) -> u8
-        ensures { result ≡ refusal_number self.now }
-    {
-        match *self {
+// The number by which the refusal is told to the outside.
+impl From<Refusal> for u8 {
+    ghost from_gives = { λ refusal number. number ≡ refusal_number refusal };
+
+    fn from(refusal: Refusal) -> u8 {
+        match refusal {
             Refusal::OtherDoor => 2,
             Refusal::AlreadyOpen => 3,
             Refusal::NotOpen => 4,

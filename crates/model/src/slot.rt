@@ -2,7 +2,7 @@
 use crate::body::{Body, Mark};
 
 // What a used slot of a log is.
-#[derive(Clone, Copy)]
+#[derive(Clone, Copy, PartialEq, Eq, Debug)]
 pub enum Stage {
     // of an open section, not committed
     Draft,
@@ -12,7 +12,7 @@ pub enum Stage {
     Retired { version: u64, retired: u64 },
 }
 
-#[derive(Clone, Copy)]
+#[derive(Clone, Copy, PartialEq, Eq, Debug)]
 pub struct Slot {
     // the record that it is of
     pub number: u8,
@@ -21,14 +21,14 @@ pub struct Slot {
 }
 
 // What the store keeps of a record whose bytes are in the home.
-#[derive(Clone, Copy)]
+#[derive(Clone, Copy, PartialEq, Eq, Debug)]
 pub struct Master {
     pub version: u64,
     pub mark: Mark,
 }
 
 // What a hold of a section is on: a place, so it shows what stands there now.
-#[derive(Clone, Copy)]
+#[derive(Clone, Copy, PartialEq, Eq, Debug)]
 pub enum Hold {
     Unset,
     OnMaster { number: u8 },

@@ -1,58 +1,82 @@
--- The best of what has been seen of a row, and what one more place makes of it.
-use Rattle.std.proofs.Common.{◌≡◌, ℕ, ◌+◌, ◌<◌, ◌≤◌, ◌⊎◌, List, length, get_or, Some, None, Option, sym, refl, ap, ◌∙◌, subst, inl, inr, ⊎_elim, arith}
-use Rattle.std.proofs.lemmas.Bool.{cases_eq}
-use Rattle.order.specs.Order.{In, Picked, Nearer}
+-- The best by an order of those that have a property, and of the members of a row.
+use Rattle.std.proofs.Common.{◌≡◌, zero, suc, ◌⊎◌, List, [], ◌∷◌, ◌++◌, length, Some, None, Option, sym, ap, ◌∙◌, map-id, subst, inl, inr, arith, rules}
+use denote.Param.Members.{Mut}
+use Rattle.std.specs.Fn.{Called}
+use Rattle.std.specs.Iterator.{ReducesItems, Drains}
+use Rattle.std.specs.List.{Contains, flat_map}
+use Rattle.std.specs.Option.{option_to_list}
+use Rattle.std.proofs.lemmas.Fn.{fold_same}
+use Rattle.std.proofs.lemmas.Iterator.{YieldsList, items_from_drains}
+use Rattle.std.proofs.lemmas.List.Elements.{Contains-append_left, Contains-push, Contains-push_cases, Contains-append_right}
+use Rattle.order.specs.Order.{In, Foremost, Picked, Nearer}
 
-pub some_same : {A : Type 0} {x y : A} → Some x ≡ Some y → x ≡ y
-some_same e = cc
+-- the laws of a strict total order
+pub record IsOrder {A : Type 0} (before : A → A → Type 0) : Type 0 where
+  pub irreflexive : (x : A) → before x x → ⊥
+  pub transitive : (x y z : A) → before x y → before y z → before x z
+  pub total : (x y : A) → (before x y → ⊥) → (before y x → ⊥) → x ≡ y
 
-pub none_some : {A : Type 0} {x : A} → None ≡ Some x → ⊥
-none_some e = let z : ◌≡◌ {A = ℕ} 0 1 = cc in omega arith
+-- the members of a row
+abbrev pub members : {A : Type 0} → List (Option A) → List A
+members row = flat_map (λ place. option_to_list place) row
 
--- what was seen later, once one more place was seen
-pub record More {A : Type 0} (place : Option A) (seen later : A → Type 0) : Type 0 where
-  pub here : (x : A) → place ≡ Some x → later x
-  pub there : (x : A) → seen x → later x
-  pub either : (x : A) → later x → (place ≡ Some x) ⊎ seen x
+pub cons_cases : {A : Type 0} (x : A) (xs : List A) (y : A) → Contains (x ∷ xs) y → Contains xs y ⊎ (x ≡ y)
+cons_cases x xs y (zero, within, is) = inr is
+cons_cases x xs y (suc k, within, is) = inl (k, omega arith, is)
+
+members_has : {A : Type 0} (row : List (Option A)) (x : A) → In row x → Contains (members row) x
+members_has [] x i = search rules
+members_has (None ∷ row) x (zero, within, is) = search rules
+members_has (None ∷ row) x (suc k, within, is) = let i = members_has row x in search rules
+members_has (Some y ∷ row) x (zero, within, is) = search rules
+members_has (Some y ∷ row) x (suc k, within, is) = Contains-append_right (y ∷ []) _ x (members_has row x (k, omega arith, is))
+
+row_has : {A : Type 0} (row : List (Option A)) (x : A) → Contains (members row) x → In row x
+row_has [] x i = search rules
+row_has (None ∷ row) x i = let j = row_has row x i in (suc j.0, omega (arith, j.1), j.2)
+row_has (Some y ∷ row) x (zero, within, is) = (0, omega arith, ap Some is)
+row_has (Some y ∷ row) x (suc k, within, is) = let j = row_has row x (k, omega arith, is) in (suc j.0, omega (arith, j.1), j.2)
+
+drained : {S A : Type 0} {steps : S → Option A → S → Type 0} {s : S} {xs : List A} (ys : List A) → Drains steps s ys → YieldsList steps (λ x. x) s xs → ys ≡ xs
+drained ys (u, (t, yields, last)) road = sym (map-id ys) ∙ items_from_drains ys (t, yields, λ _. (u, last)) road
 
 module _ {A : Type 0} (before : A → A → Type 0) where
-  -- r is a foremost one of those that were seen
+  -- r is a best one of those that have P
   abbrev pub Best : (A → Type 0) → Option A → Type 0
-  Best seen None = (x : A) → seen x → ⊥
-  Best seen (Some m) = seen m × ((x : A) → seen x → before x m → ⊥)
+  Best P None = (x : A) → P x → ⊥
+  Best P (Some m) = P m × ((x : A) → P x → before x m → ⊥)
 
-  module _ (irreflexive : (x : A) → before x x → ⊥) (transitive : (x y z : A) → before x y → before y z → before x z) where
-    -- what is kept of one more place and the best so far is the best
-    pub more : (place best r : Option A) {seen later : A → Type 0} → More place seen later → Nearer before place best r → Best seen best → Best later r
-    more None None r s n b = subst (Best _) (sym n) (λ x l. ⊎_elim none_some (b x) (s.either x l))
-    more None (Some m) r s n b = subst (Best _) (sym n) (s.there m b.0, λ x l. ⊎_elim (λ e. absurd (none_some e)) (b.1 x) (s.either x l))
-    more (Some y) None r s n b = subst (Best _) (sym n) (s.here y refl, λ x l h. ⊎_elim (λ e. irreflexive x (subst (before x) (some_same e) h)) (b x) (s.either x l))
-    more (Some y) (Some m) r s (inl (h, n)) b =
-        subst (Best _) (sym n) (s.here y refl, λ x l up. ⊎_elim (λ e. irreflexive x (subst (before x) (some_same e) up)) (λ o. b.1 x o (transitive x y m up h)) (s.either x l))
-    more (Some y) (Some m) r s (inr (no_way, n)) b =
-        subst (Best _) (sym n) (s.there m b.0, λ x l up. ⊎_elim (λ e. no_way (subst (λ z. before z m) (sym (some_same e)) up)) (λ o. b.1 x o up) (s.either x l))
+  pub foremost_of : (row : List (Option A)) (m : A) → Best (Contains (members row)) (Some m) → Foremost before row m
+  foremost_of row m b = record { member = row_has row m b.0; first = λ x i. b.1 x (members_has row x i) }
 
-  -- the best of a whole row is what is picked of it
-  pub picked_of : ((x y : A) → (before x y → ⊥) → (before y x → ⊥) → x ≡ y) → (row : List (Option A)) (r : Option A) → Best (In row) r → Picked before row r
-  picked_of total row None b = b
-  picked_of total row (Some m) b = record {
-    is = record { member = b.0; first = b.1 };
-    only = λ n f. total n m (b.1 n f.member) (f.first m b.0);
-  }
+  pub none_of : (row : List (Option A)) → Best (Contains (members row)) None → (x : A) → In row x → ⊥
+  none_of row b x i = b x (members_has row x i)
 
--- x stands among the first n places of the row
-abbrev pub Among : {A : Type 0} → List (Option A) → ℕ → A → Type 0
-Among row n x = (k : ℕ) × (k < n) × (k < length row) × (get_or row k None ≡ Some x)
+module _ {A : Type 0} {before : A → A → Type 0} (order : IsOrder before) where
+  -- the best member is what is picked of the row
+  picked_of : (row : List (Option A)) (r : Option A) → Best before (Contains (members row)) r → Picked before row r
+  picked_of row None b = none_of before row b
+  picked_of row (Some m) b = let f = foremost_of before row m b in record { is = f; only = λ n g. order.total n m (f.first n g.member) (g.first m f.member) }
 
--- the places up to n and the one at n
-pub among_more : {A : Type 0} (row : List (Option A)) (n : ℕ) (place : Option A) → n < length row → get_or row n None ≡ place → More place (Among row n) (Among row (n + 1))
-among_more row n place within read = record {
-  here = λ x e. (n, omega arith, within, read ∙ e);
-  there = λ x i. (i.0, omega (arith, i.1), i.2, i.3);
-  either = λ x i. ⊎_elim (λ e. inl (sym read ∙ ap (λ k. get_or row k None) (sym e) ∙ i.3)) (λ ne. inr (i.0, omega (arith, i.1, ne), i.2, i.3)) (cases_eq i.0 n);
-}
+  -- one more that has Q, beside those that have P
+  module _ {P Q : A → Type 0} (x : A) (here : Q x) (either : (y : A) → Q y → P y ⊎ (x ≡ y)) where
+    pub best_begun : Best before P None → Best before Q (Some x)
+    best_begun b = search (rules, order.irreflexive, b, either)
 
--- the best of the places up to the row's end
-pub among_all : {A : Type 0} (before : A → A → Type 0) (row : List (Option A)) (n : ℕ) (r : Option A) → length row ≤ n → Best before (Among row n) r → Best before (In row) r
-among_all before row n None all b = λ x i. b x (i.0, omega (arith, i.1), i.1, i.2)
-among_all before row n (Some m) all b = ((b.0.0, b.0.2, b.0.3), λ x i. b.1 x (i.0, omega (arith, i.1), i.1, i.2))
+    pub best_more : ((y : A) → P y → Q y) → (m r : A) → Nearer before m x r → Best before P (Some m) → Best before Q (Some r)
+    best_more there m r n b = search (rules, order.irreflexive, order.transitive, either)
+
+  -- a pass that keeps the nearer one keeps the best
+  module _ {F S : Type 0} {g : Mut F (A × (A × Unit {0})) A} (f : F) {steps : S → Option A → S → Type 0} (s : S) (keeps : (m x r : A) (q : F) → Called g f (m, (x, tt)) r q → (q ≡ f) × Nearer before m x r) where
+    best_from_reduce : (xs : List A) (r : Option A) → YieldsList steps (λ x. x) s xs → ReducesItems steps g s f r → Best before (Contains xs) r
+    best_from_reduce xs None road none = let e = drained [] none road in λ x i. omega (arith, i.1, ap length e)
+    best_from_reduce xs (Some m) road (x, ys, q, drains, turns) =
+        let whole = drained (x ∷ ys) drains road in
+        let IsBest : List A → A → Type 0 = λ zs n. Best before (Contains (x ∷ zs)) (Some n) in
+        let first : IsBest [] x = search (rules, order.irreflexive, cons_cases x []) in
+        let turn : (zs : List A) (n y r : A) (p : F) → IsBest zs n → Called g f (n, (y, tt)) r p → IsBest (zs ++ y ∷ []) r × (p ≡ f) = λ zs n y r p b call.
+        (best_more y (Contains-push (x ∷ zs) y) (Contains-push_cases (x ∷ zs) y) (Contains-append_left (x ∷ zs) (y ∷ [])) n r (keeps n y r p call).1 b, (keeps n y r p call).0) in
+        subst (λ zs. Best before (Contains zs) (Some m)) whole (fold_same g IsBest f turn ys x m q first turns)
+
+    pub picked_from_reduce : (row : List (Option A)) (r : Option A) → YieldsList steps (λ x. x) s (members row) → ReducesItems steps g s f r → Picked before row r
+    picked_from_reduce row r road ran = picked_of row r (best_from_reduce (members row) r road ran)

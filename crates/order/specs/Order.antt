@@ -20,11 +20,9 @@ abbrev pub Picked : {A : Type 0} → (A → A → Type 0) → List (Option A) �
 Picked {A = A} before row None = (x : A) → In row x → ⊥
 Picked {A = A} before row (Some m) = TheForemost before row m
 
--- what is kept of a place and the best so far: the place where it is before the best
-abbrev pub Nearer : {A : Type 0} → (A → A → Type 0) → Option A → Option A → Option A → Type 0
-Nearer before None best r = r ≡ best
-Nearer before (Some x) None r = r ≡ Some x
-Nearer before (Some x) (Some m) r = (before x m × (r ≡ Some x)) ⊎ ((before x m → ⊥) × (r ≡ Some m))
+-- what is kept of the best so far and one more: the one more where it is before the best
+abbrev pub Nearer : {A : Type 0} → (A → A → Type 0) → A → A → A → Type 0
+Nearer before best x r = (before x best × (r ≡ x)) ⊎ ((before x best → ⊥) × (r ≡ best))
 
 -- the same by a test
 abbrev pub better : {A : Type 0} → (A → A → Bool) → Option A → Option A → Option A

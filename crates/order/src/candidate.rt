@@ -1,32 +1,19 @@
 // What may be seen of a record: its master and slots, by their versions.
-ghost use Rattle.std.specs.Prelude.{Decides};
-ghost use Rattle.order.specs.Kinds.{PlaceBefore, CandidateBefore};
+ghost use Rattle.order.specs.Kinds.{CandidateBefore};
 ghost use Rattle.std.proofs.Common.{rules};
 
 use crate::ranked::Ranked;
+use std::cmp::Reverse;
 
-#[derive(Clone, Copy)]
+// The master first, then the lower user, then the lower age.
+#[derive(Clone, Copy, PartialEq, Eq, PartialOrd, Ord, Debug)]
 pub enum Place {
     Master,
     // the age is 0 for the user's oldest slot
     Slot { user: u8, age: u8 },
 }
 
-impl Place {
-    // The master first, then the lower user, then the lower age.
-    fn precedes(self, other: Place) -> bool
-        ensures { Decides result (PlaceBefore self other) }
-    {
-        match (self, other) {
-            (Place::Master, Place::Slot { .. }) => true,
-            (Place::Slot { user: u, age: a }, Place::Slot { user: v, age: b }) => u < v
-                || u == v && a < b,
-            _ => false,
-        }
-    }
-}
-
-#[derive(Clone, Copy)]
+#[derive(Clone, Copy, PartialEq, Eq, Debug)]
 pub struct Candidate {
     pub version: u64,
     pub place: Place,
@@ -43,7 +30,6 @@ impl Ranked for Candidate {
     ghost total = { Prim.search rules };
 
     fn precedes(&self, other: &Candidate) -> bool {
-        self.version > other.version
-            || self.version == other.version && self.place.precedes(other.place)
+        (Reverse(self.version), self.place) < (Reverse(other.version), other.place)
     }
 }

@@ -4,14 +4,14 @@ ghost use Rattle.std.proofs.Common.{rules};
 
 use crate::ranked::Ranked;
 
-#[derive(Clone, Copy)]
+// The lower stamp first, then the lower user.
+#[derive(Clone, Copy, PartialEq, Eq, PartialOrd, Ord, Debug)]
 pub struct OpenSection {
     // the stamp at which it was opened
     pub stamp: u64,
     pub user: u8,
 }
 
-// The lower stamp first, then the lower user.
 impl Ranked for OpenSection {
     ghost before = { OpenSectionBefore };
 
@@ -22,6 +22,6 @@ impl Ranked for OpenSection {
     ghost total = { Prim.search rules };
 
     fn precedes(&self, other: &OpenSection) -> bool {
-        self.stamp < other.stamp || self.stamp == other.stamp && self.user < other.user
+        self < other
     }
 }

@@ -2,7 +2,7 @@
 ghost use Rattle.std.specs.Prelude.{◌≡◌, Decides};
 ghost use Rattle.order.specs.Order.{Nearer, Picked};
 
-// A strict total order.
+// A strict total order. `Ord` alone does not say that two of which neither is before the other are one and the same.
 pub trait Ranked {
     ghost before: { Self → Self → Type 0 };
 
@@ -16,24 +16,16 @@ pub trait Ranked {
     ghost total: { (x y : Self) → (before x y → ⊥) → (before y x → ⊥) → x ≡ y };
 }
 
-// Of a place and the best so far, the one that is kept.
-fn nearer<T: Ranked + Copy>(place: Option<T>, best: Option<T>) -> Option<T>
-    ensures { Nearer T.before place best result }
+// Of the best so far and one more, the one that is kept.
+fn nearer<T: Ranked + Copy>(best: T, x: T) -> T
+    ensures { Nearer T.before best x result }
 {
-    match (place, best) {
-        (Some(x), Some(m)) => if x.precedes(&m) { place } else { best },
-        (Some(_), None) => place,
-        _ => best,
-    }
+    if x.precedes(&best) { x } else { best }
 }
 
 // The member of the row that nothing in it is before; None where every place is empty.
 pub fn foremost<T: Ranked + Copy>(row: &[Option<T>]) -> Option<T>
     ensures { Picked T.before row.now result }
 {
-    let mut best = None;
-    for place in row {
-        best = nearer(*place, best);
-    }
-    best
+    row.iter().copied().flatten().reduce(nearer)
 }

@@ -1,14 +1,14 @@
-use Rattle.std.proofs.Common.{None, sym}
-use Rattle.std.proofs.lemmas.List.{get_or_read}
-use Rattle.order.proofs.Bests.{more, picked_of, among_more, among_all}
+use Rattle.std.proofs.Common.{rules}
+use Rattle.std.proofs.lemmas.Iterator.{YieldsList-from_slice}
+use Rattle.std.proofs.lemmas.Iterator.Consumers.{YieldsList-from_copied, YieldsList-at}
+use Rattle.std.proofs.lemmas.Iterator.Adapters.{YieldsList-from_flatten, YieldsList-from_once}
+use Rattle.order.proofs.Bests.{picked_from_reduce}
 use Rattle.order.proofs.ranked.foremost.Goals as goal
 
-pub loop-place-preserved : goal.loop-place-preserved
-loop-place-preserved g c =
-    let row = c.args.row.now in
-    let n = c.loop-place.place-index in
-    let read = sym (get_or_read row n _ c.loop-place-test.true c.place-item.is None) in
-    more _ g.met.T.Ranked.irreflexive g.met.T.Ranked.transitive _ _ _ (among_more row n _ c.loop-place-test.true read) c.nearer-best.ensures c.loop-place.invariant
-
 pub returns : goal.returns
-returns g c = picked_of _ g.met.T.Ranked.total _ _ (among_all _ _ _ _ c.loop-place-test.false c.loop-place.invariant)
+returns g c =
+    let laws = g.met.T.Ranked in
+    let road = YieldsList-from_copied (YieldsList-at c.copied.ensures.source (YieldsList-from_slice c.args.row.now c.iter.ensures.rest)) in
+    picked_from_reduce (record { irreflexive = laws.irreflexive; transitive = laws.transitive; total = laws.total }) _ c.flatten.result (λ m x r q k. search rules) c.args.row.now _
+    (YieldsList-from_flatten _ _ _ _ (λ place inner made. YieldsList-from_once place (search rules)) (YieldsList-at c.flatten.ensures.source road) c.flatten.ensures.front c.flatten.ensures.back c.flatten.ensures.done)
+    c.reduce.ensures.ran
