@@ -9,18 +9,13 @@ use crate::reply::Reply;
 use entries::{Entry, read_entry};
 use interfaces::home::Home;
 
-// Whether two bodies have the same bytes.
-fn same_body(one: &[u8; 16], other: &[u8; 16]) -> bool
-    ensures { Decides result (one.now ≡ other.now) }
+// Whether the record is read back as `body`.
+fn reads_back<H: Home>(home: &mut H, record: u16, body: &[u8; 16]) -> bool
+    ensures said { Decides result (Holds (H.Home.meaning home.old) «record» body.now) }
+    ensures left { H.Home.meaning home.new ≡ H.Home.meaning home.old }
 {
-    *one == *other
-}
-
-// The marks of a session that has loaded nothing.
-fn none_loaded() -> [bool; 65535]
-    ensures { result ≡ replicate 65535 false }
-{
-    [false; 65535]
+    let mut found = [0; 16];
+    home.read(record, &mut found).is_ok() && found == *body
 }
 
 #[derive(Drop)]
@@ -38,7 +33,7 @@ impl<H: Home> Session<H> {
     {
         Session {
             home,
-            loaded: none_loaded(),
+            loaded: [false; 65535],
         }
     }
 
@@ -46,21 +41,8 @@ impl<H: Home> Session<H> {
     pub fn into_home(self) -> H
         ensures { result ≡ self.home }
     {
-        let Session { home, loaded: _ } = self;
+        let Session { home, .. } = self;
         home
-    }
-
-    // Whether the record is read back as `body`.
-    fn reads_back(&mut self, record: u16, body: &[u8; 16]) -> bool
-        ensures said { Decides result (Holds (H.Home.meaning self.old.home) «record» body.now) }
-        ensures home { H.Home.meaning self.new.home ≡ H.Home.meaning self.old.home }
-        ensures loaded { self.new.loaded ≡ self.old.loaded }
-    {
-        let mut found = [0; 16];
-        match self.home.read(record, &mut found) {
-            Ok(()) => same_body(&found, body),
-            Err(_) => false,
-        }
     }
 
     // Writes an entry and reads it back.
@@ -73,8 +55,8 @@ impl<H: Home> Session<H> {
         if let Err(fault) = self.home.write(record, body) {
             return Reply::Refused { record, fault };
         }
-        self.loaded[record as usize] = true;
-        if self.reads_back(record, &body) {
+        self.loaded[usize::from(record)] = true;
+        if reads_back(&mut self.home, record, &body) {
             Reply::Written { record }
         } else {
             Reply::Differs { record }
@@ -98,9 +80,10 @@ impl<H: Home> Session<H> {
     fn was_loaded(&self, record: u16) -> bool
         ensures { result ≡ slice_index_or self.now.loaded «record» false }
     {
-        let loaded: &[bool] = &self.loaded;
-        let at = record as usize;
-        at < loaded.len() && loaded[at]
+        self.loaded
+            .get(usize::from(record))
+            .copied()
+            .unwrap_or(false)
     }
 
     // What a record holds, if this session has loaded it.
@@ -114,9 +97,7 @@ impl<H: Home> Session<H> {
             return None;
         }
         let mut body = [0; 16];
-        match self.home.read(record, &mut body) {
-            Ok(()) => Some(body),
-            Err(_) => None,
-        }
+        self.home.read(record, &mut body).ok()?;
+        Some(body)
     }
 }
