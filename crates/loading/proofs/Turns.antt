@@ -22,6 +22,10 @@ loaded_snoc : (turns : List Turn) (t : Turn) (k : ℕ) → loaded_in (turns ++ (
 loaded_snoc [] t k = or-false (is_of (loaded t) k)
 loaded_snoc (u ∷ turns) t k = ap (λ b. is_of (loaded u) k || b) (loaded_snoc turns t k) ∙ sym (or_assoc (is_of (loaded u) k) (loaded_in turns k) (is_of (loaded t) k))
 
+-- place k of a list, after a write to place n
+after_set : {A : Type 0} (xs : List A) (n k : ℕ) (y d : A) → n < length xs → get_or (set xs n y) k d ≡ cond (n == k) y (get_or xs k d)
+after_set xs n k y d h = grind (arith, nat_tests, common_steps, get_or-set_same, get_or-set_other, cases_eq k n)
+
 -- a turn that has loaded nothing
 shows_same : (first : List (List ℕ)) (turns : List Turn) (bodies : List (List ℕ)) (marks : List Bool) (t : Turn) → loaded t ≡ None →
     Shows first turns bodies marks → Shows first (turns ++ (t ∷ [])) bodies marks
@@ -32,9 +36,6 @@ shows_same first turns bodies marks t e s = record {
   marked = λ k. rw (loaded_snoc, e, or-false) (s.marked k);
   inside = s.inside;
 }
-
-after_set : {A : Type 0} (xs : List A) (n k : ℕ) (y d : A) → n < length xs → get_or (set xs n y) k d ≡ cond (n == k) y (get_or xs k d)
-after_set xs n k y d h = grind (arith, nat_tests, common_steps, get_or-set_same, get_or-set_other, cases_eq k n)
 
 -- a turn that has loaded an entry
 shows_loaded : (first : List (List ℕ)) (turns : List Turn) (bodies : List (List ℕ)) (marks : List Bool) (t : Turn) (e : Entry) → loaded t ≡ Some e →
@@ -70,15 +71,15 @@ pub line_done : (m : Meaning) (w : WellFormed m) (marks : List Bool) (t : Turn) 
     t.reply ≡ reply_to m e → m' ≡ after_line m e → marks' ≡ marks_after m e marks → GoesOn m.bodies marks t m'.bodies marks'
 line_done m w marks t e reads reply after marks_are = rw (after, marks_are) (line_more m w marks t e reads reply)
 
--- before any turn
 none_marked : (n k : ℕ) → get_or (replicate n false) k false ≡ false
 none_marked n k = grind (arith, common_steps, get_or_past, cases_lt k n)
 
-pub shows_first : (first : List (List ℕ)) → Shows first [] first (replicate 65535 false)
-shows_first first = record {
-  long = length-replicate 65535 false;
+-- before any turn
+pub shows_first : (first : List (List ℕ)) (marks : List Bool) → marks ≡ replicate 65535 false → Shows first [] first marks
+shows_first first marks none = record {
+  long = rw none (length-replicate 65535 false);
   count = refl;
   each = λ k h. refl;
-  marked = none_marked 65535;
-  inside = λ k m. let none = none_marked 65535 k in absurd cc;
+  marked = λ k. rw none (none_marked 65535 k);
+  inside = λ k m. let unmarked = rw none at m in let none = none_marked 65535 k in absurd cc;
 }

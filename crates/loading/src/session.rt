@@ -18,10 +18,18 @@ fn reads_back<H: Home>(home: &mut H, record: u16, body: &[u8; 16]) -> bool
     home.read(record, &mut found).is_ok() && found == *body
 }
 
+// The marks of a session that has loaded nothing: a function of its own, since a proof unfolds them where they are written out.
+fn none_loaded() -> [bool; 65535]
+    ensures { result ≡ replicate 65535 false }
+{
+    [false; 65535]
+}
+
+// Clauses name its fields: the home's meaning has a function in it, which the value of a model may not have.
 #[derive(Drop)]
 pub struct Session<H> {
     home: H,
-    // for each record that a home can have, whether it was loaded
+    // for each record that a home can have, whether it was loaded; a fixed table, since a session takes no heap
     loaded: [bool; 65535],
 }
 
@@ -33,7 +41,7 @@ impl<H: Home> Session<H> {
     {
         Session {
             home,
-            loaded: [false; 65535],
+            loaded: none_loaded(),
         }
     }
 
@@ -70,6 +78,7 @@ impl<H: Home> Session<H> {
         ensures loaded { self.new.loaded ≡ marks_after (H.Home.meaning self.old.home) (entry_of line.now) self.old.loaded }
         ensures table { GoesOn (H.Home.meaning self.old.home).bodies self.old.loaded (record { line = line.now; reply = result }) (H.Home.meaning self.new.home).bodies self.new.loaded }
     {
+        // A match: of what a closure changes, the prover keeps nothing.
         match read_entry(line) {
             Ok(wanted) => self.load(wanted),
             Err(bad) => Reply::Bad(bad),
