@@ -4,9 +4,10 @@ ghost use Rattle.homes.specs.Plains.{plain};
 ghost use Rattle.homes.specs.Allowances.{allowing};
 ghost use Rattle.clients.specs.Writes.{two_of_three};
 
-use crate::writing::{Answers, write_three};
+use crate::writing::write_each;
 use homes::allowance::Allowance;
 use homes::plain::Plain;
+use interfaces::fault::Fault;
 
 // An allowance of two writes over lent bytes.
 fn allowance_of_two(bytes: &mut [u8]) -> Allowance<Plain<'_>>
@@ -16,10 +17,10 @@ fn allowance_of_two(bytes: &mut [u8]) -> Allowance<Plain<'_>>
 }
 
 // Through an allowance of two, two writes are accepted, and the third is refused.
-pub fn third_write_of_two() -> Answers
+pub fn third_write_of_two() -> [Result<(), Fault>; 3]
     ensures { result ≡ two_of_three }
 {
     let mut bytes = [0; 32];
     let mut home = allowance_of_two(&mut bytes);
-    write_three(&mut home, 0, 1, 1, [1; 16])
+    write_each(&mut home, [0, 1, 1], [1; 16])
 }

@@ -1,29 +1,24 @@
-// Three writes in a row to any home.
+// Writes in a row to any home.
 ghost use Rattle.std.specs.Prelude.{◌≡◌};
-ghost use Rattle.clients.specs.Writes.{three_answers, after_three};
+ghost use Rattle.clients.specs.Writes.{answers_of, after_writes};
 
 use interfaces::fault::Fault;
 use interfaces::home::Home;
 
-// The answers to three writes, one after another.
-#[derive(Clone, Copy)]
-pub struct Answers {
-    pub first: Result<(), Fault>,
-    pub second: Result<(), Fault>,
-    pub third: Result<(), Fault>,
-}
-
-// Writes a body to three records, one after another, whatever becomes of each.
-pub fn write_three<H: Home>(home: &mut H, one: u16, two: u16, three: u16, body: [u8; 16]) -> Answers
-    ensures said { result ≡ three_answers (H.Home.meaning home.old) one two three body }
-    ensures left { H.Home.meaning home.new ≡ after_three (H.Home.meaning home.old) one two three body }
+// Writes a body to each of some records, one after another, whatever becomes of each, and gives the home's answers.
+#[tactic(auto, using(crate::proofs::Steps::answers_more, crate::proofs::Steps::writes_more))]
+pub fn write_each<H: Home, const N: usize>(
+    home: &mut H,
+    numbers: [u16; N],
+    body: [u8; 16],
+) -> [Result<(), Fault>; N]
+    ensures said { result ≡ answers_of (H.Home.meaning home.old) numbers.entry body }
+    ensures left { H.Home.meaning home.new ≡ after_writes (H.Home.meaning home.old) numbers.entry body }
 {
-    let first = home.write(one, body);
-    let second = home.write(two, body);
-    let third = home.write(three, body);
-    Answers {
-        first,
-        second,
-        third,
+    let mut answers = [Ok(()); N];
+    // By place, since the prover keeps nothing of what a closure or a zipped `iter_mut` writes.
+    for (k, number) in numbers.iter().enumerate() {
+        answers[k] = home.write(*number, body);
     }
+    answers
 }

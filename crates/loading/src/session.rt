@@ -9,24 +9,27 @@ use crate::reply::Reply;
 use entries::{Entry, read_entry};
 use interfaces::home::Home;
 
-// Whether two bodies have the same bytes.
-fn same_body(one: &[u8; 16], other: &[u8; 16]) -> bool
-    ensures { Decides result (one.now ≡ other.now) }
+// Whether the record is read back as `body`.
+fn reads_back<H: Home>(home: &mut H, record: u16, body: &[u8; 16]) -> bool
+    ensures said { Decides result (Holds (H.Home.meaning home.old) «record» body.now) }
+    ensures left { H.Home.meaning home.new ≡ H.Home.meaning home.old }
 {
-    *one == *other
+    let mut found = [0; 16];
+    home.read(record, &mut found).is_ok() && found == *body
 }
 
-// The marks of a session that has loaded nothing.
+// The marks of a session that has loaded nothing: a function of its own, since a proof unfolds them where they are written out.
 fn none_loaded() -> [bool; 65535]
     ensures { result ≡ replicate 65535 false }
 {
     [false; 65535]
 }
 
+// Clauses name its fields: the home's meaning has a function in it, which the value of a model may not have.
 #[derive(Drop)]
 pub struct Session<H> {
     home: H,
-    // for each record that a home can have, whether it was loaded
+    // for each record that a home can have, whether it was loaded; a fixed table, since a session takes no heap
     loaded: [bool; 65535],
 }
 
@@ -46,21 +49,8 @@ impl<H: Home> Session<H> {
     pub fn into_home(self) -> H
         ensures { result ≡ self.home }
     {
-        let Session { home, loaded: _ } = self;
+        let Session { home, .. } = self;
         home
-    }
-
-    // Whether the record is read back as `body`.
-    fn reads_back(&mut self, record: u16, body: &[u8; 16]) -> bool
-        ensures said { Decides result (Holds (H.Home.meaning self.old.home) «record» body.now) }
-        ensures home { H.Home.meaning self.new.home ≡ H.Home.meaning self.old.home }
-        ensures loaded { self.new.loaded ≡ self.old.loaded }
-    {
-        let mut found = [0; 16];
-        match self.home.read(record, &mut found) {
-            Ok(()) => same_body(&found, body),
-            Err(_) => false,
-        }
     }
 
     // Writes an entry and reads it back.
@@ -73,8 +63,8 @@ impl<H: Home> Session<H> {
         if let Err(fault) = self.home.write(record, body) {
             return Reply::Refused { record, fault };
         }
-        self.loaded[record as usize] = true;
-        if self.reads_back(record, &body) {
+        self.loaded[usize::from(record)] = true;
+        if reads_back(&mut self.home, record, &body) {
             Reply::Written { record }
         } else {
             Reply::Differs { record }
@@ -88,6 +78,7 @@ impl<H: Home> Session<H> {
         ensures loaded { self.new.loaded ≡ marks_after (H.Home.meaning self.old.home) (entry_of line.now) self.old.loaded }
         ensures table { GoesOn (H.Home.meaning self.old.home).bodies self.old.loaded (record { line = line.now; reply = result }) (H.Home.meaning self.new.home).bodies self.new.loaded }
     {
+        // A match: of what a closure changes, the prover keeps nothing.
         match read_entry(line) {
             Ok(wanted) => self.load(wanted),
             Err(bad) => Reply::Bad(bad),
@@ -98,9 +89,10 @@ impl<H: Home> Session<H> {
     fn was_loaded(&self, record: u16) -> bool
         ensures { result ≡ slice_index_or self.now.loaded «record» false }
     {
-        let loaded: &[bool] = &self.loaded;
-        let at = record as usize;
-        at < loaded.len() && loaded[at]
+        self.loaded
+            .get(usize::from(record))
+            .copied()
+            .unwrap_or(false)
     }
 
     // What a record holds, if this session has loaded it.
@@ -114,9 +106,7 @@ impl<H: Home> Session<H> {
             return None;
         }
         let mut body = [0; 16];
-        match self.home.read(record, &mut body) {
-            Ok(()) => Some(body),
-            Err(_) => None,
-        }
+        self.home.read(record, &mut body).ok()?;
+        Some(body)
     }
 }
