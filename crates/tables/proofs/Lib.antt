@@ -1,3 +1,5 @@
 pub mod Rows
 mod Leasts
 mod Arrays
+mod FromFn
+mod Picks
