@@ -1,38 +1,21 @@
 -- The foremost of rows, of which each is picked alone, is the foremost of all of them.
-use Rattle.std.proofs.Common.{◌≡◌, Bool, true, false, cond, List, [], ◌∷◌, ◌++◌, map, Some, None, Decides, Option, sym, refl, ap, ◌∙◌, arith}
+use Rattle.std.proofs.Common.{◌≡◌, Bool, List, [], ◌∷◌, ◌++◌, map, Some, None, Decides, Option, sym, refl, ap, ◌∙◌, arith}
 use Rattle.std.specs.List.{flat_map}
 use Rattle.order.specs.Order.{better, pick}
 
 -- by a test that decides a strict total order
 module _ {A : Type 0} (before : A → A → Type 0) (test : A → A → Bool) (decides : (x y : A) → Decides (test x y) (before x y))
     (transitive : (x y z : A) → before x y → before y z → before x z) (total : (x y : A) → (before x y → ⊥) → (before y x → ⊥) → x ≡ y) where
-  later : (x y z : A) → test x y ≡ true → test y z ≡ true → test x z ≡ true
-  later x y z e f = (decides x z).1 (transitive x y z ((decides x y).0 e) ((decides y z).0 f))
-
-  -- x is not before y, and y is not before z
-  not_before : (x y z : A) → test x y ≡ false → test y z ≡ false → test x z ≡ false
-  not_before x y z e f =
+  better_assoc : (a b c : Option A) → better test a (better test b c) ≡ better test (better test a b) c
+  better_assoc None b c = refl
+  better_assoc (Some x) None c = refl
+  better_assoc (Some x) (Some y) None = grind arith
+  better_assoc (Some x) (Some y) (Some z) =
       let a = decides x y in
       let b = decides y z in
       let c = decides z y in
       let d = decides x z in
-      grind (arith, transitive x z y, total z y)
-
-  better_none : (a : Option A) → better test a None ≡ a
-  better_none None = refl
-  better_none (Some x) = refl
-
-  better_assoc : (a b c : Option A) → better test a (better test b c) ≡ better test (better test a b) c
-  better_assoc None b c = refl
-  better_assoc (Some x) None c = refl
-  better_assoc (Some x) (Some y) None = sym (better_none (cond (test x y) (Some x) (Some y)))
-  better_assoc (Some x) (Some y) (Some z) = go (test x y) (test y z) refl refl
-    where
-      go : (p q : Bool) → test x y ≡ p → test y z ≡ q → better test (Some x) (cond q (Some y) (Some z)) ≡ better test (cond p (Some x) (Some y)) (Some z)
-      go true true e f = let h = later x y z e f in rw (e, h) refl
-      go true false e f = refl
-      go false true e f = rw (e, f) refl
-      go false false e f = let h = not_before x y z e f in rw (f, h) refl
+      grind (arith, transitive x y z, transitive x z y, total z y)
 
   pick_append : (xs ys : List (Option A)) → pick test (xs ++ ys) ≡ better test (pick test xs) (pick test ys)
   unfolding pick
