@@ -5,10 +5,9 @@ use Rattle.std.proofs.lemmas.List.{get_or-set_same, get_or-set_other, get_or_pas
 use Rattle.std.proofs.lemmas.Bool.{cases_eq, eq-eqb, ne_eqb}
 use Rattle.model.specs.declared.slot.Slot.{Slot}
 use Rattle.model.specs.Tools.{put}
-use Rattle.model.specs.declared.slot.Master.{Master}
-use Rattle.model.specs.Worlds.{put_slot, first_master}
+use Rattle.model.specs.Worlds.{put_slot}
 use Rattle.tables.specs.declared.log.Log.{Log}
-use Rattle.tables.specs.View.{places_of, no_log, slots_of, oldest_of, masters_of}
+use Rattle.tables.specs.View.{places_of, no_log, slots_of, oldest_of}
 
 -- one place of an array changed is one place of the table changed
 table_set : {A B : Type 0} (f : A → B) (xs : List A) (k : ℕ) (a d : A) → k < length xs → ◌≡◌ {A = ℕ → B} (λ j. f (get_or (set xs k a) j d)) (put (λ j. f (get_or xs j d)) k (f a))
@@ -43,7 +42,3 @@ pub replicated_alike : {A B : Type 0} (f : A → B) (n j : ℕ) (a d : A) → f 
 replicated_alike f zero j a d e = sym e
 replicated_alike f (suc n) zero a d e = refl
 replicated_alike f (suc n) (suc j) a d e = replicated_alike f n j a d e
-
--- the table of masters at the first hour
-pub first_masters : masters_of (record { all = replicate 64 first_master }) ≡ (λ n. first_master)
-first_masters = fun_ext (λ n. replicated_alike (λ (m : Master). m) 64 n first_master first_master refl)

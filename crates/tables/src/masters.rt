@@ -19,7 +19,7 @@ pub struct Masters {
 
 impl Masters {
     // All of version 0, and present.
-    #[tactic(auto, using(crate::proofs::Arrays::first_masters))]
+    #[tactic(auto, using(crate::proofs::FirstHour::first_masters))]
     pub fn new() -> Masters
         ensures { masters_of result ≡ (λ n. first_master) }
     {
