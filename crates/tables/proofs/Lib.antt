@@ -1,3 +1,6 @@
 pub mod Rows
 mod Leasts
 mod Arrays
+mod FirstHour
+mod FromFn
+mod Picks

@@ -3,11 +3,6 @@ use Rattle.std.proofs.Common.{◌≡◌, ℕ, ◌+◌, ◌<◌, ◌≤◌, ◌�
 use Rattle.std.proofs.lemmas.List.{get_or-set_same, get_or-set_other, get_or_past}
 use Rattle.std.proofs.lemmas.Bool.{cases_lt}
 
--- one more cell is filled
-pub filled_more : {A : Type 0} (f : ℕ → A) (d : A) (xs : List A) (n : ℕ) (a : A) → n < length xs → a ≡ f n → ((j : ℕ) → j < n → get_or xs j d ≡ f j) → (j : ℕ) → j < n + 1 → get_or (set xs n a) j d ≡ f j
-filled_more f d xs n a lt e below =
-    below_more _ _ (λ j h. (let ne : j ≢ n = omega arith in get_or-set_other xs n j a d ne ∙ below j h)) (get_or-set_same xs n a d lt ∙ e)
-
 -- a loop that goes over a list and changes each place: below n all is done, and from n on all is as it was
 pub record Halfway {A : Type 0} (d : A) (done : ℕ → A → Type 0) (xs ys : List A) (n : ℕ) : Type 0 where
   pub long : length ys ≡ length xs

@@ -1,17 +1,21 @@
 // All tables of a store, and the versions of a record in them.
-ghost use Rattle.std.specs.Prelude.{◌≡◌, ◌/◌, ◌%◌, ◌<◌, Some, None};
-ghost use Rattle.model.specs.Versions.{body_in, within, if_within, stage_shows, slot_shows, place_of, foremost as foremost_version};
+ghost use Rattle.std.specs.Prelude.{◌≡◌};
+ghost use Rattle.model.specs.Versions.{body_in, slot_shows, place_of, foremost as foremost_version};
+ghost use Rattle.order.specs.Order.{pick};
+ghost use Rattle.order.specs.Kinds.{candidate_test};
 ghost use Rattle.order.specs.declared.candidate.Place.TheVariants.{Slot as SlotPlace};
 ghost use Rattle.tables.specs.View.{slots_of, oldest_of, masters_of};
-ghost use Rattle.tables.specs.Inners.{inner_first, IsSeen};
+ghost use Rattle.tables.specs.Inners.{inner_first, slots_show, IsSeen};
 
+use crate::asked::Asked;
 use crate::logs::Logs;
 use crate::masters::Masters;
 use crate::sections::Sections;
 use model::body::Mark;
-use model::slot::{Hold, Stage};
+use model::slot::{Hold, Master};
 use order::candidate::{Candidate, Place};
 use order::ranked::foremost;
+use std::array::from_fn;
 
 #[derive(Drop)]
 pub struct Inner {
@@ -50,63 +54,53 @@ impl Inner {
     pub fn foremost(&self, number: u8, limit: Option<u64>) -> Option<Candidate>
         ensures { result ≡ foremost_version (slots_of self.now.logs) (oldest_of self.now.logs) (masters_of self.now.masters) number limit }
     {
-        let mut row = [None; 65];
-        for cell in 0..64u8 {
-            row[cell as usize] = self.shown(cell, number, limit);
-        }
-        row[64] = if_within(limit, self.masters.get(number).version, Place::Master);
-        foremost(&row)
+        let asked = Asked { number, limit };
+        let logs: [_; 8] = from_fn(|user| self.foremost_in(user as u8, asked));
+        let master = asked.if_within(self.masters.get(number).version, Place::Master);
+        foremost(&[foremost(&logs), master])
     }
 
-    // What the slot of age cell % 8 in the log of user cell / 8 shows of a record.
-    fn shown(&self, cell: u8, number: u8, limit: Option<u64>) -> Option<Candidate>
-        ensures { result ≡ slot_shows number limit (SlotPlace (cell / 8) (cell % 8)) (slots_of self.now.logs (cell / 8) (place_of (oldest_of self.now.logs (cell / 8)) (cell % 8))) }
+    // The foremost version in the log of one user.
+    fn foremost_in(&self, user: u8, asked: Asked) -> Option<Candidate>
+        ensures { result ≡ pick candidate_test (slots_show (slots_of self.now.logs) (oldest_of self.now.logs) asked.number asked.limit user) }
     {
-        let user = cell / 8;
-        let age = cell % 8;
-        let Some(slot) = self.logs.slot(user, self.logs.place_in(user, age)) else {
-            return None;
-        };
-        if slot.number != number {
-            return None;
-        }
-        stage_shows(limit, Place::Slot { user, age }, slot.stage)
+        let ages: [_; 8] = from_fn(|age| self.shown(user, age as u8, asked));
+        foremost(&ages)
+    }
+
+    // What the slot of an age shows in the log of a user.
+    fn shown(&self, user: u8, age: u8, asked: Asked) -> Option<Candidate>
+        ensures { result ≡ slot_shows asked.number asked.limit (SlotPlace user age) (slots_of self.now.logs user (place_of (oldest_of self.now.logs user) age)) }
+    {
+        let slot = self.logs.slot(user, self.logs.place_in(user, age));
+        asked.slot_shows(Place::Slot { user, age }, slot)
     }
 
     // Where a version stands, and its mark; the master where there is none.
     pub fn seen(&self, number: u8, best: Option<Candidate>) -> Seen
         ensures { IsSeen self.now number best result }
     {
-        match best {
-            Some(candidate) => self.seen_at(number, candidate),
-            None => self.seen_master(number),
+        if let Some(candidate) = best
+            && let Place::Slot { user, age } = candidate.place
+        {
+            let place = self.logs.place_in(user, age);
+            return Seen {
+                hold: Hold::OnSlot { user, place },
+                version: candidate.version,
+                mark: self.mark_at(user, place),
+            };
         }
-    }
-
-    fn seen_at(&self, number: u8, candidate: Candidate) -> Seen
-        ensures { IsSeen self.now number (Some candidate) result }
-    {
-        match candidate.place {
-            Place::Master => self.seen_master(number),
-            Place::Slot { user, age } => {
-                let place = self.logs.place_in(user, age);
-                Seen {
-                    hold: Hold::OnSlot { user, place },
-                    version: candidate.version,
-                    mark: self.mark_at(user, place),
-                }
-            }
-        }
+        self.seen_master(number)
     }
 
     fn seen_master(&self, number: u8) -> Seen
         ensures { IsSeen self.now number None result }
     {
-        let master = self.masters.get(number);
+        let Master { version, mark } = self.masters.get(number);
         Seen {
             hold: Hold::OnMaster { number },
-            version: master.version,
-            mark: master.mark,
+            version,
+            mark,
         }
     }
 
@@ -114,42 +108,8 @@ impl Inner {
     pub fn mark_at(&self, user: u8, place: u8) -> Mark
         ensures { result ≡ (body_in (slots_of self.now.logs user place)).mark }
     {
-        match self.logs.slot(user, place) {
-            Some(slot) => slot.body.mark,
-            None => Mark::Cleared,
-        }
-    }
-}
-
-// Whether a version is at or below a limit, if there is one.
-fn within(limit: Option<u64>, version: u64) -> bool
-    ensures { result ≡ within limit version }
-{
-    match limit {
-        Some(stamp) => version <= stamp,
-        None => true,
-    }
-}
-
-fn if_within(limit: Option<u64>, version: u64, place: Place) -> Option<Candidate>
-    ensures { result ≡ if_within limit version place }
-{
-    if within(limit, version) {
-        return Some(Candidate { version, place });
-    }
-    None
-}
-
-// A live or retired slot is a version, a draft is none.
-fn stage_shows(limit: Option<u64>, place: Place, stage: Stage) -> Option<Candidate>
-    ensures { result ≡ stage_shows limit place stage }
-{
-    match stage {
-        Stage::Draft => None,
-        Stage::Live { version } => if_within(limit, version, place),
-        Stage::Retired {
-            version,
-            retired: _,
-        } => if_within(limit, version, place),
+        self.logs
+            .slot(user, place)
+            .map_or(Mark::Cleared, |slot| slot.body.mark)
     }
 }

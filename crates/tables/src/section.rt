@@ -2,12 +2,10 @@
 ghost use Rattle.std.specs.Prelude.{◌≡◌, Some, None};
 ghost use Rattle.model.specs.Tools.{on_some};
 ghost use Rattle.model.specs.Steps.{fresh};
-ghost use Rattle.model.specs.Versions.{opened_as};
 ghost use Rattle.tables.specs.View.{section_of, holds_of, with_hold};
 
 use crate::hold_number::HoldNumber;
 use model::slot::Hold;
-use order::open_section::OpenSection;
 
 #[derive(Clone, Copy)]
 pub struct Section {
@@ -33,20 +31,10 @@ impl Section {
         self.opening
     }
 
-    // The section as one of a row of open ones.
-    pub fn opened_by(&self, user: u8) -> Option<OpenSection>
-        ensures { result ≡ opened_as user (section_of self.now) }
-    {
-        match self.opening {
-            Some(stamp) => Some(OpenSection { stamp, user }),
-            None => None,
-        }
-    }
-
     pub fn hold(&self, hold: HoldNumber) -> Hold
         ensures { result ≡ holds_of self.now hold.number }
     {
-        self.holds[hold.number() as usize]
+        self.holds[usize::from(hold)]
     }
 
     // Opens it at a stamp, with empty holds.
@@ -67,6 +55,6 @@ impl Section {
     pub fn set_hold(&mut self, hold: HoldNumber, on: Hold)
         ensures { section_of self.new ≡ on_some (with_hold hold.number on) (section_of self.old) }
     {
-        self.holds[hold.number() as usize] = on;
+        self.holds[usize::from(hold)] = on;
     }
 }

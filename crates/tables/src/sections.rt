@@ -2,7 +2,7 @@
 ghost use Rattle.std.specs.Prelude.{◌≡◌, Some, None};
 ghost use Rattle.model.specs.Tools.{put, on_some};
 ghost use Rattle.model.specs.Steps.{fresh};
-ghost use Rattle.model.specs.Versions.{first_opened};
+ghost use Rattle.model.specs.Versions.{opened_as, first_opened};
 ghost use Rattle.tables.specs.View.{sections_of, holds_at, with_hold, Opened, Closed};
 
 use crate::hold_number::HoldNumber;
@@ -12,6 +12,7 @@ use model::refusal::Refusal;
 use model::slot::Hold;
 use order::open_section::OpenSection;
 use order::ranked::foremost;
+use std::array::from_fn;
 
 #[derive(Drop)]
 pub struct Sections {
@@ -32,54 +33,58 @@ impl Sections {
     pub fn opening(&self, user: User) -> Result<u64, Refusal>
         ensures { Opened self.now user.number result }
     {
-        match self.all[user.number() as usize].opening() {
-            Some(stamp) => Ok(stamp),
-            None => Err(Refusal::NotOpen),
-        }
+        self.all[usize::from(user)]
+            .opening()
+            .ok_or(Refusal::NotOpen)
     }
 
     // Refused if the user's section is open.
     pub fn closed(&self, user: User) -> Result<(), Refusal>
         ensures { Closed self.now user.number result }
     {
-        match self.all[user.number() as usize].opening() {
-            Some(_) => Err(Refusal::AlreadyOpen),
-            None => Ok(()),
+        if self.all[usize::from(user)].opening().is_some() {
+            return Err(Refusal::AlreadyOpen);
         }
+        Ok(())
     }
 
     pub fn hold(&self, user: User, hold: HoldNumber) -> Hold
         ensures { result ≡ holds_at self.now user.number hold.number }
     {
-        self.all[user.number() as usize].hold(hold)
+        self.all[usize::from(user)].hold(hold)
     }
 
     pub fn open(&mut self, user: User, stamp: u64)
         ensures { sections_of self.new ≡ put (sections_of self.old) user.number (Some (fresh stamp)) }
     {
-        self.all[user.number() as usize].open(stamp);
+        self.all[usize::from(user)].open(stamp);
     }
 
     pub fn close(&mut self, user: User)
         ensures { sections_of self.new ≡ put (sections_of self.old) user.number None }
     {
-        self.all[user.number() as usize].close();
+        self.all[usize::from(user)].close();
     }
 
     pub fn set_hold(&mut self, user: User, hold: HoldNumber, on: Hold)
         ensures { sections_of self.new ≡ put (sections_of self.old) user.number (on_some (with_hold hold.number on) (sections_of self.old user.number)) }
     {
-        self.all[user.number() as usize].set_hold(hold, on);
+        self.all[usize::from(user)].set_hold(hold, on);
     }
 
     // The open section with the lowest opening stamp.
     pub fn first_opened(&self) -> Option<OpenSection>
         ensures { result ≡ first_opened (sections_of self.now) }
     {
-        let mut row = [None; 8];
-        for user in 0..8u8 {
-            row[user as usize] = self.all[user as usize].opened_by(user);
-        }
+        let row: [_; 8] = from_fn(|user| self.opened(user as u8));
         foremost(&row)
+    }
+
+    // The user's section as one of a row of open ones; none behind the last user.
+    fn opened(&self, user: u8) -> Option<OpenSection>
+        ensures { result ≡ opened_as user (sections_of self.now user) }
+    {
+        let stamp = self.all.get(usize::from(user))?.opening()?;
+        Some(OpenSection { stamp, user })
     }
 }
