@@ -1,27 +1,25 @@
 -- Logs in order: what each call makes of a log is again a ring.
-use Rattle.std.proofs.Common.{◌≡◌, ℕ, suc, ◌-◌, ◌<◌, ◌≤◌, Bool, true, false, cond, not, ◌&&◌, eqb, ltb, leb, List, length, Some, None, Option, sym, refl, ap, ◌∙◌, subst, ⊎_elim, arith}
-use Rattle.std.proofs.lemmas.Bool.{cases_lt, ltb-true, ltb-false, lt-ltb, le-ltb, le-leb, lt-leb, and_from, and_left, and_right, not-true, not-false, not_from_true, not_from_false}
+use Rattle.std.proofs.Common.{◌≡◌, ℕ, suc, ◌-◌, ◌<◌, ◌≤◌, Bool, true, false, cond, not, ◌&&◌, eqb, ltb, leb, List, Some, None, Option, sym, refl, ap, ◌∙◌, subst, ⊎_elim, arith}
+use Rattle.std.proofs.lemmas.Bool.{cases_lt, ltb-true, ltb-false, lt-ltb, le-ltb, le-leb, lt-leb, and_from, and_left, and_right, not-true, not-false, not_from_true, not_from_false, cond_both}
 use Rattle.interfaces.specs.Homes.{Meaning}
-use Rattle.interfaces.specs.Stamps.{top}
 use Rattle.model.specs.declared.door.Door.{Door}
 use Rattle.model.specs.declared.body.Body.{Body}
 use Rattle.model.specs.declared.slot.Stage.{Stage}
 use Rattle.model.specs.declared.slot.Stage.TheVariants.{Draft, Live, Retired}
 use Rattle.model.specs.declared.slot.Slot.{Slot}
-use Rattle.model.specs.declared.refusal.Refusal.TheVariants.{OtherDoor, AlreadyOpen, NotServed, NoHold, BadRange, LockedByOther, NewerVersion, NoDraft, StampsSpent}
-use Rattle.model.specs.declared.answer.Collected.TheVariants.{Waits, Freed}
+use Rattle.model.specs.declared.refusal.Refusal.{Refusal}
 use Rattle.model.specs.Tools.{put, on_some, is_some}
-use Rattle.model.specs.Worlds.{World, first_hour, served, written, blank, put_slot}
-use Rattle.model.specs.Calls.{Call, Open, Find, Take, Lock, Put, Clear, Commit, Abort, Survey, Collect, Tick, collected, Turn, foreign}
+use Rattle.model.specs.Worlds.{World, first_hour, written, blank, put_slot}
+use Rattle.model.specs.Calls.{Call, Open, Find, Take, Lock, Put, Clear, Commit, Abort, Survey, Collect, Tick, Turn}
 use Rattle.model.specs.Versions.{place_of, newest}
-use Rattle.model.specs.Drafts.{is_draft, any_draft, draft_of, draft_age, has_draft, has_drafts, locked_by_other, free_age, edited, settled_stage, settled}
-use Rattle.model.specs.Steps.{Outcome, gives, bad_range, open_step, find_in, find_step, held, take_from, take_step, lock_at, lock_new, lock_step, edit, put_step, clear_step, settle, commit_drafts, commit_step, abort_step, survey_step, oldest_place, freed, collect_live, collect_stage, collect_slot, collect_step, own_step, step}
+use Rattle.model.specs.Drafts.{is_draft, any_draft, draft_of, has_draft, free_age, edited, settled_stage, settled}
+use Rattle.model.specs.Steps.{Outcome, refuse, edit, settle, survey_step, oldest_place, own_step, step}
 use Rattle.laws.specs.Runs.{Turned, Reached, begun, turned}
 use Rattle.laws.specs.Laws.{Ring, LogsInOrder}
 use Rattle.laws.specs.Theorems.{OfEveryWorld}
-use Rattle.laws.proofs.Basics.{eq_case, bool_case, option_case, put_case, unless_case, fault_case, section_case, least_some, least_first}
+use Rattle.laws.proofs.Basics.{eq_case, bool_case, option_case, put_case, least_some, least_first}
+use Rattle.laws.proofs.Cases.{step_cases, open_cases, find_cases, take_cases, lock_cases, put_cases, clear_cases, commit_cases, abort_cases, collect_cases}
 use Rattle.laws.proofs.Invariant.{draft_slot}
-use Rattle.interfaces.specs.Homes as home
 
 -- two tests that come out alike
 leb_same : (a b c d : ℕ) → (a ≤ b → c ≤ d) → (b < a → d < c) → leb a b ≡ leb c d
@@ -152,25 +150,8 @@ abbrev Stay : Outcome → Type 0
 Stay out = Rings out.after
 
 module _ (w : World) (rings : Rings w) where
-  open_rings : (c u : ℕ) → Stay (open_step w c u)
-  unfolding open_step
-  open_rings c u = unless_case Stay w (is_some (w.section u)) AlreadyOpen _ rings (λ _. rings)
-
-  find_rings : (u i r : ℕ) → Stay (find_step w u i r)
-  unfolding find_step
-  find_rings u i r =
-      section_case Stay w (w.section u) _ rings (λ s _.
-      unless_case Stay w (leb (served w) r) NotServed _ rings (λ _.
-      unless_case Stay w (ltb 3 i) NoHold _ rings (λ _.
-      option_case (λ o. Stay (find_in w u s i r o)) (draft_age (w.slot u) (w.oldest u) r) (λ _. rings) (λ _ _. rings))))
-
-  take_rings : (u i offset count : ℕ) → Stay (take_step w u i offset count)
-  unfolding take_step
-  take_rings u i offset count =
-      section_case Stay w (w.section u) _ rings (λ s _.
-      unless_case Stay w (ltb 3 i) NoHold _ rings (λ _.
-      option_case (λ b. Stay (take_from w offset count b)) (held w (s.hold i)) (λ _. rings)
-      (λ b _. unless_case Stay w (bad_range offset count) BadRange _ rings (λ _. rings))))
+  no : (why : Refusal) → Stay (refuse w why)
+  no why = rings
 
   -- one log changes
   one_ring : (u p : ℕ) (s : Option Slot) → Ring (put (w.slot u) p s) (w.oldest u) → (o : ℕ) → Ring (put_slot w.slot u p s o) (w.oldest o)
@@ -178,37 +159,10 @@ module _ (w : World) (rings : Rings w) where
       eq_case (λ b. Ring (cond b (put (w.slot u) p s) (w.slot o)) (w.oldest o)) o u
       (λ e. subst (λ y. Ring (put (w.slot u) p s) (w.oldest y)) (sym e) r) (λ _. rings o)
 
-  lock_rings : (u r : ℕ) → Stay (lock_step w u r)
-  unfolding lock_step
-  lock_rings u r =
-      section_case Stay w (w.section u) _ rings (λ s _.
-      unless_case Stay w (leb (served w) r) NotServed _ rings (λ _.
-      option_case (λ o. Stay (lock_new w u s r o)) (draft_age (w.slot u) (w.oldest u) r) (λ _.
-      unless_case Stay w (locked_by_other w.slot w.oldest u r) LockedByOther _ rings (λ _.
-      unless_case Stay w (ltb s.opening (newest w r).entry.version) NewerVersion _ rings (λ _.
-      option_case (λ o. Stay (lock_at w u r o)) (free_age (w.slot u) (w.oldest u)) (λ _. rings)
-      (λ i e. one_ring u (place_of (w.oldest u) i) _ (lock_ring (w.slot u) (w.oldest u) (rings u) i (draft_slot r (newest w r).entry.body) refl e)))))
-      (λ _ _. rings)))
-
   edit_rings : (u r : ℕ) (f : Body → Body) → Stay (edit w u r f)
   edit_rings u r f o =
       edited_ring (w.slot o) (w.oldest o) (rings o) (edited u r f o) (λ sl.
-      bool_case (λ b. is_draft (cond b (record { number = sl.number; body = f sl.body; stage = sl.stage }) sl).stage ≡ is_draft sl.stage) (eqb o u && draft_of r (Some sl)) (λ _. refl) (λ _. refl))
-
-  put_rings : (u r offset : ℕ) (bytes : List ℕ) → Stay (put_step w u r offset bytes)
-  unfolding put_step
-  put_rings u r offset bytes =
-      section_case Stay w (w.section u) _ rings (λ s _.
-      unless_case Stay w (leb (served w) r) NotServed _ rings (λ _.
-      unless_case Stay w (not (has_draft (w.slot u) (w.oldest u) r)) NoDraft _ rings (λ _.
-      unless_case Stay w (bad_range offset (length bytes)) BadRange _ rings (λ _. edit_rings u r (written offset bytes)))))
-
-  clear_rings : (u r : ℕ) → Stay (clear_step w u r)
-  unfolding clear_step
-  clear_rings u r =
-      section_case Stay w (w.section u) _ rings (λ s _.
-      unless_case Stay w (leb (served w) r) NotServed _ rings (λ _.
-      unless_case Stay w (not (has_draft (w.slot u) (w.oldest u) r)) NoDraft _ rings (λ _. edit_rings u r (λ b. blank))))
+      cond_both (eqb o u && draft_of r (Some sl)) _ sl (λ (y : Slot). is_draft y.stage ≡ is_draft sl.stage) (λ _. refl) (λ _. refl))
 
   settle_rings : (u c o : ℕ) → Ring (settle w u c o) (w.oldest o)
   settle_rings u c o =
@@ -228,56 +182,31 @@ module _ (w : World) (rings : Rings w) where
       other false (Live v) = refl
       other carried (Retired v t) = refl
 
-  commit_rings : (c u : ℕ) → Stay (commit_step w c u)
-  unfolding commit_step
-  commit_rings c u =
-      section_case Stay w (w.section u) _ rings (λ s _.
-      bool_case (λ b. Stay (commit_drafts w c u b)) (has_drafts (w.slot u) (w.oldest u))
-      (λ _. unless_case Stay w (leb top w.highest) StampsSpent _ rings (λ _. settle_rings u c)) (λ _. rings))
-
-  abort_rings : (u : ℕ) → Stay (abort_step w u)
-  unfolding abort_step
-  abort_rings u =
-      section_case Stay w (w.section u) _ rings (λ s _ o.
+  own_step_rings : (c : ℕ) (call : Call) → Stay (own_step w c call)
+  unfolding survey_step
+  own_step_rings c (Open u) = open_cases Stay w no c u (λ _. rings)
+  own_step_rings c (Find u i r) = find_cases Stay w no u i r (λ _ _ _. rings) (λ _ _ _ _. rings)
+  own_step_rings c (Take u i offset count) = take_cases Stay w no u i offset count (λ _ _ _ _. rings)
+  own_step_rings c (Lock u r) =
+      lock_cases Stay w no u r
+      (λ s i l. one_ring u (place_of (w.oldest u) i) _ (lock_ring (w.slot u) (w.oldest u) (rings u) i (draft_slot r (newest w r).entry.body) refl l.first_free)) (λ _ _ _ _. rings)
+  own_step_rings c (Put u r offset bytes) = put_cases Stay w no u r offset bytes (λ _ _. edit_rings u r (written offset bytes))
+  own_step_rings c (Clear u r) = clear_cases Stay w no u r (λ _ _. edit_rings u r (λ b. blank))
+  own_step_rings c (Commit u) = commit_cases Stay w no c u (settle_rings u c) (λ _. rings)
+  own_step_rings c (Abort u) =
+      abort_cases Stay w no u (λ o.
       eq_case (λ b. Ring (λ p. cond (b && any_draft (w.slot o p)) None (w.slot o p)) (w.oldest o)) o u
       (λ _. aborted_ring (w.slot o) (w.oldest o) (rings o)) (λ _. rings o))
-
-  collect_rings : (c u : ℕ) → Stay (collect_step w c u)
-  unfolding collect_step
-  collect_rings c u = option_case (λ o. Stay (collect_slot w c u o)) (w.slot u (oldest_place w u)) (λ _. rings) (λ sl e. by sl e sl.stage refl)
-    where
-      by : (sl : Slot) → w.slot u (oldest_place w u) ≡ Some sl → (st : Stage) → sl.stage ≡ st → Stay (collect_stage w c u sl st)
-      by sl e Draft q = rings
-      by sl e (Retired v t) q =
-          bool_case (λ b. Stay (cond b (gives (freed w u) (collected Freed)) (gives w (collected Waits)))) (leb t w.watermark)
-          (λ _ o. eq_case (λ b. Ring (cond b (put (w.slot u) (oldest_place w u) None) (w.slot o)) (cond b (place_of (w.oldest u) 1) (w.oldest o))) o u
-          (λ _. freed_ring (w.slot u) (w.oldest u) (rings u)) (λ _. rings o)) (λ _. rings)
-      by sl e (Live v) q =
-          bool_case (λ b. Stay (cond b (collect_live w c u sl v) (gives w (collected Waits)))) (leb v w.watermark)
-          (λ _. unless_case Stay w (leb top w.highest) StampsSpent _ rings (λ _.
-          fault_case Stay w (home.write_fault w.home sl.number) _ (λ _. rings) (λ _.
-          one_ring u (oldest_place w u) _ (over_ring (w.slot u) (w.oldest u) (rings u) (oldest_place w u) sl (record { number = sl.number; body = sl.body; stage = Retired v c }) e (ap is_draft q)))))
-          (λ _. rings)
-
-  survey_rings : Stay (survey_step w)
-  unfolding survey_step
-  survey_rings = rings
-
-  own_step_rings : (c : ℕ) (call : Call) → Stay (own_step w c call)
-  own_step_rings c (Open u) = open_rings c u
-  own_step_rings c (Find u i r) = find_rings u i r
-  own_step_rings c (Take u i offset count) = take_rings u i offset count
-  own_step_rings c (Lock u r) = lock_rings u r
-  own_step_rings c (Put u r offset bytes) = put_rings u r offset bytes
-  own_step_rings c (Clear u r) = clear_rings u r
-  own_step_rings c (Commit u) = commit_rings c u
-  own_step_rings c (Abort u) = abort_rings u
-  own_step_rings c Survey = survey_rings
-  own_step_rings c (Collect u) = collect_rings c u
+  own_step_rings c Survey = rings
+  own_step_rings c (Collect u) =
+      collect_cases Stay w no c u (λ _. rings)
+      (λ _ _ _ _ _ _ o. eq_case (λ b. Ring (cond b (put (w.slot u) (oldest_place w u) None) (w.slot o)) (cond b (place_of (w.oldest u) 1) (w.oldest o))) o u
+      (λ _. freed_ring (w.slot u) (w.oldest u) (rings u)) (λ _. rings o))
+      (λ sl e v q _ _. one_ring u (oldest_place w u) _ (over_ring (w.slot u) (w.oldest u) (rings u) (oldest_place w u) sl _ e (ap is_draft q)))
   own_step_rings c (Tick t) = rings
 
   step_rings : (c : ℕ) (d : Door) (call : Call) → Stay (step w c d call)
-  step_rings c d call = unless_case Stay w (foreign d call) OtherDoor _ rings (λ _. own_step_rings c call)
+  step_rings c d call = step_cases Stay w no c d call (λ _. own_step_rings c call)
 
 -- an empty log
 empty_ring : (first : ℕ) → Ring (λ p. None) first
