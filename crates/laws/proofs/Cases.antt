@@ -1,6 +1,6 @@
 -- The cases of each call's step: refused with nothing changed, or done. What holds of each case holds of the step.
 use Rattle.std.proofs.Common.{◌≡◌, ℕ, ◌<◌, ◌≤◌, Bool, true, false, not, leb, List, Some, None, Option, refl}
-use Rattle.std.proofs.lemmas.Bool.{ltb-false, leb-true, leb-false, cond_both}
+use Rattle.std.proofs.lemmas.Bool.{ltb-false, leb-true, leb-false, not-true, cond_both}
 use Rattle.interfaces.specs.declared.fault.Fault.{Fault}
 use Rattle.model.specs.declared.door.Door.{Door}
 use Rattle.model.specs.declared.body.Body.{Body}
@@ -17,7 +17,8 @@ use Rattle.model.specs.Calls.{Call, opened, taken, done, committed, collected, f
 use Rattle.model.specs.Versions.{place_of, visible, newest}
 use Rattle.model.specs.Drafts.{draft_age, has_draft, has_drafts, locked_by_other, free_age, undrafted}
 use Rattle.model.specs.Steps.{a_mark, a_next, Outcome, gives, gives_by, refuse, unless, in_section, of_served, of_draft, unless_fault, fresh, open_step, find_version, find_draft, find_in, find_step, held, take_from, take_step, lock_at, lock_new, lock_step, edit, put_step, clear_step, settle, commit_drafts, commit_step, abort_step, oldest_place, freed, written_back, collect_stage, collect_slot, collect_step, own_step, step}
-use Rattle.laws.proofs.Basics.{bool_case, option_case}
+use Rattle.laws.proofs.Basics.{bool_case, option_case, least_some}
+use Rattle.laws.proofs.Carrying.{is_some_false}
 use Rattle.interfaces.specs.Homes as home
 
 -- u's section s may lock r, of which no user has a draft; the draft then stands at the age i
@@ -28,6 +29,11 @@ pub record MayLock (w : World) (u r : ℕ) (s : Section) (i : ℕ) : Type 0 wher
   pub no_other : locked_by_other w.slot w.oldest u r ≡ false
   pub not_newer : (newest w r).entry.version ≤ s.opening
   pub first_free : free_age (w.slot u) (w.oldest u) ≡ Some i
+
+-- the place of that age
+pub free_here : {w : World} {u r : ℕ} {s : Section} {i : ℕ} → MayLock w u r s i → w.slot u (place_of (w.oldest u) i) ≡ None
+free_here {w} {u} {r} {s} {i} l =
+    is_some_false (w.slot u (place_of (w.oldest u) i)) (not-true _ (least_some 8 (λ j. not (is_some (w.slot u (place_of (w.oldest u) j)))) i l.first_free).1)
 
 module _ (P : Outcome → Type 0) (w : World) (no : (why : Refusal) → P (refuse w why)) where
   unless_case : (b : Bool) (why : Refusal) (go : Outcome) → (b ≡ false → P go) → P (unless w b why go)
