@@ -1,7 +1,7 @@
 -- Lemmas on the tools of the model: tables, the cases of a step, least numbers, places, bytes in a home.
-use Rattle.std.proofs.Common.{◌≡◌, ℕ, zero, suc, ◌+◌, ◌-◌, ◌%◌, ◌<◌, Bool, true, false, cond, eqb, ltb, ◌⊎◌, List, [], ◌∷◌, length, get_or, set, Some, None, Option, sym, refl, ap, ◌∙◌, subst, ⊎_elim, arith}
+use Rattle.std.proofs.Common.{◌≡◌, ℕ, zero, suc, ◌+◌, ◌-◌, ◌%◌, ◌<◌, Bool, true, false, cond, ◌&&◌, eqb, ltb, ◌⊎◌, List, [], ◌∷◌, length, get_or, set, Some, None, Option, sym, refl, ap, ◌∙◌, subst, ⊎_elim, arith}
 use Rattle.std.proofs.lemmas.List.{get_or-set_same, get_or-set_other}
-use Rattle.std.proofs.lemmas.Bool.{eqb-true, eqb-false, cases_eq, ltb-true}
+use Rattle.std.proofs.lemmas.Bool.{eqb-true, eqb-false, cases_eq, ltb-true, cond_both}
 use Rattle.interfaces.specs.declared.fault.Fault.{Fault}
 use Rattle.interfaces.specs.Homes.{Meaning}
 use Rattle.model.specs.declared.refusal.Refusal.{Refusal}
@@ -10,6 +10,9 @@ use Rattle.model.specs.declared.slot.Stage.{Stage}
 use Rattle.model.specs.declared.slot.Stage.TheVariants.{Draft, Live, Retired}
 use Rattle.model.specs.Tools.{put, on_some, or_else, least}
 use Rattle.model.specs.Worlds.{Section, World, home_bytes}
+use Rattle.model.specs.Drafts.{draft_of, edited}
+use Rattle.model.specs.declared.body.Body.{Body}
+use Rattle.model.specs.declared.slot.Slot.{Slot}
 use Rattle.model.specs.Steps.{Outcome, refuse, unless, in_section, unless_fault}
 use Rattle.interfaces.specs.Homes as home
 
@@ -121,6 +124,12 @@ HasVersion (Retired x t) v = x ≡ v
 -- each place has an age
 pub age_of : (first p : ℕ) → p < 8 → (i : ℕ) × (i < 8) × ((first + i) % 8 ≡ p)
 age_of first p h = ((p + 8 - first % 8) % 8, omega arith, omega arith)
+
+-- an edit changes the body alone
+pub edited_same : (u r : ℕ) (f : Body → Body) (o : ℕ) (sl : Slot) → ((edited u r f o sl).number ≡ sl.number) × ((edited u r f o sl).stage ≡ sl.stage)
+edited_same u r f o sl =
+    cond_both (eqb o u && draft_of r (Some sl)) (record { number = sl.number; body = f sl.body; stage = sl.stage }) sl
+    (λ (x : Slot). (x.number ≡ sl.number) × (x.stage ≡ sl.stage)) (λ _. (refl, refl)) (λ _. (refl, refl))
 
 -- Bytes in a home.
 

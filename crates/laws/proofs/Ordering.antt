@@ -1,6 +1,6 @@
 -- Logs in order: what each call makes of a log is again a ring.
-use Rattle.std.proofs.Common.{◌≡◌, ℕ, suc, ◌-◌, ◌<◌, ◌≤◌, Bool, true, false, cond, not, ◌&&◌, eqb, ltb, leb, List, Some, None, Option, sym, refl, ap, ◌∙◌, subst, ⊎_elim, arith}
-use Rattle.std.proofs.lemmas.Bool.{cases_lt, ltb-true, ltb-false, lt-ltb, le-ltb, le-leb, lt-leb, and_from, and_left, and_right, not-true, not-false, not_from_true, not_from_false, cond_both}
+use Rattle.std.proofs.Common.{◌≡◌, ℕ, suc, ◌-◌, ◌<◌, ◌≤◌, Bool, true, false, cond, not, ◌&&◌, ltb, leb, List, Some, None, Option, sym, refl, ap, ◌∙◌, subst, ⊎_elim, arith}
+use Rattle.std.proofs.lemmas.Bool.{cases_lt, ltb-true, ltb-false, lt-ltb, le-ltb, le-leb, lt-leb, and_from, and_left, and_right, not-true, not-false, not_from_true, not_from_false}
 use Rattle.interfaces.specs.Homes.{Meaning}
 use Rattle.model.specs.declared.door.Door.{Door}
 use Rattle.model.specs.declared.body.Body.{Body}
@@ -12,12 +12,12 @@ use Rattle.model.specs.Tools.{put, on_some, is_some}
 use Rattle.model.specs.Worlds.{World, first_hour, written, blank, put_slot}
 use Rattle.model.specs.Calls.{Call, Open, Find, Take, Lock, Put, Clear, Commit, Abort, Survey, Collect, Tick, Turn}
 use Rattle.model.specs.Versions.{place_of, newest}
-use Rattle.model.specs.Drafts.{is_draft, any_draft, draft_of, has_draft, free_age, edited, settled_stage, settled}
+use Rattle.model.specs.Drafts.{is_draft, any_draft, has_draft, free_age, edited, settled_stage, settled}
 use Rattle.model.specs.Steps.{Outcome, refuse, edit, settle, survey_step, oldest_place, own_step, step}
 use Rattle.laws.specs.Runs.{Turned, Reached, begun, turned}
 use Rattle.laws.specs.Laws.{Ring, LogsInOrder}
 use Rattle.laws.specs.Theorems.{OfEveryWorld}
-use Rattle.laws.proofs.Basics.{eq_case, bool_case, option_case, put_case, least_some, least_first}
+use Rattle.laws.proofs.Basics.{eq_case, bool_case, option_case, put_case, edited_same, least_some, least_first}
 use Rattle.laws.proofs.Cases.{step_cases, open_cases, find_cases, take_cases, lock_cases, put_cases, clear_cases, commit_cases, abort_cases, collect_cases}
 use Rattle.laws.proofs.Invariant.{draft_slot}
 
@@ -160,9 +160,7 @@ module _ (w : World) (rings : Rings w) where
       (λ e. subst (λ y. Ring (put (w.slot u) p s) (w.oldest y)) (sym e) r) (λ _. rings o)
 
   edit_rings : (u r : ℕ) (f : Body → Body) → Stay (edit w u r f)
-  edit_rings u r f o =
-      edited_ring (w.slot o) (w.oldest o) (rings o) (edited u r f o) (λ sl.
-      cond_both (eqb o u && draft_of r (Some sl)) _ sl (λ (y : Slot). is_draft y.stage ≡ is_draft sl.stage) (λ _. refl) (λ _. refl))
+  edit_rings u r f o = edited_ring (w.slot o) (w.oldest o) (rings o) (edited u r f o) (λ sl. ap is_draft (edited_same u r f o sl).1)
 
   settle_rings : (u c o : ℕ) → Ring (settle w u c o) (w.oldest o)
   settle_rings u c o =

@@ -1,37 +1,31 @@
 -- Drafts are own: a hold that the history has on an own draft stands on a draft of that record, in the log of the section's user.
-use Rattle.std.proofs.Common.{◌≡◌, ℕ, true, false, cond, not, ◌&&◌, eqb, ltb, leb, List, length, Some, None, Option, sym, refl, ap, ◌∙◌, subst, arith}
+use Rattle.std.proofs.Common.{◌≡◌, ℕ, false, cond, ◌&&◌, eqb, List, Some, None, Option, sym, refl, ap, ◌∙◌, subst}
 use Rattle.std.proofs.lemmas.Bool.{eqb-true, and_parts, cond_both}
 use Rattle.std.proofs.lemmas.Option.{same_Some}
 use Rattle.interfaces.specs.Homes.{Meaning}
-use Rattle.interfaces.specs.Stamps.{top}
 use Rattle.model.specs.declared.body.Body.{Body}
-use Rattle.model.specs.declared.slot.Stage.{Stage}
-use Rattle.model.specs.declared.slot.Stage.TheVariants.{Draft, Live, Retired}
+use Rattle.model.specs.declared.slot.Stage.TheVariants.{Draft, Live}
 use Rattle.model.specs.declared.slot.Slot.{Slot}
 use Rattle.model.specs.declared.slot.Hold.{Hold}
 use Rattle.model.specs.declared.slot.Hold.TheVariants.{OnSlot}
-use Rattle.model.specs.declared.refusal.Refusal.{Refusal}
-use Rattle.model.specs.declared.refusal.Refusal.TheVariants.{OtherDoor, AlreadyOpen, NotOpen, NotServed, NoHold, BadRange, LockedByOther, NewerVersion, NoDraft, StampsSpent}
-use Rattle.model.specs.declared.answer.Collected.TheVariants.{Waits, Freed}
 use Rattle.model.specs.declared.door.Door.{Door}
 use Rattle.model.specs.declared.door.Door.TheVariants.{Host}
-use Rattle.model.specs.Tools.{put, on_some, is_some}
-use Rattle.model.specs.Worlds.{Entry, Section, World, served, home_bytes, part, written, blank, first_hour, with_slots, put_slot}
-use Rattle.model.specs.Calls.{Call, Open, Find, Take, Lock, Put, Clear, Commit, Abort, Survey, Collect, Tick, refused, taken, collected, Turn, turn, foreign}
+use Rattle.model.specs.Tools.{put, on_some}
+use Rattle.model.specs.Worlds.{Entry, Section, World, home_bytes, part, written, blank, first_hour, with_slots, put_slot}
+use Rattle.model.specs.Calls.{Call, Open, Find, Take, Lock, Put, Clear, Commit, Abort, Survey, Collect, Tick, taken, Turn, turn}
 use Rattle.model.specs.Versions.{place_of, visible, newest}
-use Rattle.model.specs.Drafts.{is_draft, any_draft, draft_age, has_draft, has_drafts, locked_by_other, free_age, edited, undrafted, settled}
+use Rattle.model.specs.Drafts.{is_draft, any_draft, edited, undrafted, settled}
 use Rattle.model.specs.Steps.{fresh, Outcome, holding, held, take_step, settle, survey_step, oldest_place, own_step, step}
-use Rattle.model.specs.History.{Held, nothing, own_draft, version_of, Reader, History, draft_in, with_reader, opening, held_by, finding, locking, editing, fed}
+use Rattle.model.specs.History.{Held, own_draft, Reader, History, draft_in, with_reader, opening, held_by, finding, locking, editing, fed}
 use Rattle.laws.specs.Laws.{DraftsOwn}
 use Rattle.laws.specs.Theorems.{OfEveryRun}
 use Rattle.laws.proofs.Basics.{eq_case, bool_case, put_case, on_some_some}
 use Rattle.laws.proofs.Cases.{free_here, step_cases, open_cases, find_cases, take_cases, lock_cases, put_cases, clear_cases, commit_cases, abort_cases, collect_cases}
 use Rattle.laws.proofs.Invariant.{draft_slot, Inv}
 use Rattle.laws.proofs.Reading.{draft_here, no_draft_here}
-use Rattle.laws.proofs.Carrying.{is_some_false, put_slot_case}
+use Rattle.laws.proofs.Carrying.{put_slot_case}
 use Rattle.laws.proofs.Answers.{accepted_own}
 use Rattle.laws.proofs.Runs.{Run, run_of, before_suc, past, seen, Kept, turn_at}
-use Rattle.interfaces.specs.Homes as home
 
 -- of u's log, with the holds of its section in the store and in the history
 abbrev pub Own : (ℕ → Option Slot) → ℕ → (ℕ → Hold) → (ℕ → Held) → Type 0

@@ -10,28 +10,28 @@ use Rattle.model.specs.Worlds.{Entry, Section, World}
 use Rattle.model.specs.Versions.{place_of, Seen, visible, newest}
 use Rattle.model.specs.Drafts.{is_draft, any_draft, draft_of, draft_age, has_draft, has_drafts}
 use Rattle.model.specs.History.{Reader, History, draft}
-use Rattle.laws.proofs.Basics.{true_false, least_some, least_none, HasVersion, age_of}
-use Rattle.laws.proofs.Invariant.{entry, Ent, Ledger, StateOk, draft_slot, KeptState, HoldOk, SectionOk, Inv}
+use Rattle.laws.proofs.Basics.{least_some, least_none, HasVersion, age_of}
+use Rattle.laws.proofs.Invariant.{entry, Ent, Ledger, StateAt, draft_slot, KeptState, HoldOk, base, SectionOk, Inv}
 use Rattle.laws.proofs.Carrying.{is_some_false}
 use Rattle.laws.proofs.Seeing.{InSlot, Highest, look}
 
 draft_is : (r : ℕ) (o : Option Slot) → draft_of r o ≡ true → (b : Body) × (o ≡ Some (draft_slot r b))
-draft_is r None e = true_false false e refl
+draft_is r None e = cc
 draft_is r (Some sl) e =
     let f = and_parts (is_draft sl.stage) (eqb sl.number r) e in
     (sl.body, ap Some (same sl.stage refl f.0 (eqb-true sl.number r f.1)))
   where
     same : (st : Stage) → sl.stage ≡ st → is_draft st ≡ true → sl.number ≡ r → sl ≡ draft_slot r sl.body
     same Draft q t k = λ i. record { number = k i; body = sl.body; stage = q i }
-    same (Live v) q t k = true_false false t refl
-    same (Retired v x) q t k = true_false false t refl
+    same (Live v) q t k = cc
+    same (Retired v x) q t k = cc
 
 module _ (seen : ℕ → ℕ → Entry) (w : World) (h : History) (inv : Inv seen w h) where
   -- a live or retired slot is an entry
   pub slot_entry : (o p : ℕ) (sl : Slot) (v : ℕ) → w.slot o p ≡ Some sl → HasVersion sl.stage v → Ent (h.entries sl.number) (entry v sl.body)
   slot_entry o p sl v e hv = go sl.stage (inv.slots o p sl e).3 hv
     where
-      go : (st : Stage) → StateOk (h.entries sl.number) (w.master sl.number).version (draft h o sl.number) sl.body st → HasVersion st v → Ent (h.entries sl.number) (entry v sl.body)
+      go : (st : Stage) → StateAt h.entries w.master (draft h) o sl st → HasVersion st v → Ent (h.entries sl.number) (entry v sl.body)
       go Draft k q = absurd q
       go (Live x) k q = inl (ap (λ y. entry y sl.body) (sym q) ∙ sym k)
       go (Retired x t) k q = subst (λ y. Ent (h.entries sl.number) (entry y sl.body)) q k.0
@@ -75,7 +75,7 @@ module _ (seen : ℕ → ℕ → Entry) (w : World) (h : History) (inv : Inv see
         | inr (inr n) ↦ omega (arith, n.2, led.newest n.0 n.1)
       ]
 
-  module _ (u : ℕ) (s : Section) (rd : Reader) (ok : SectionOk seen w.highest w.watermark h.entries w.master w.slot u s rd) (r : ℕ) where
+  module _ (u : ℕ) (s : Section) (rd : Reader) (ok : SectionOk seen (base w h) u s rd) (r : ℕ) where
     sees : Highest w r (Some s.opening) (visible w s.opening r)
     sees = look w r (Some s.opening) (omega (arith, (inv.masters r).low, ok.watermark_low)) bounded
 
@@ -111,7 +111,7 @@ module _ (seen : ℕ → ℕ → Entry) (w : World) (h : History) (inv : Inv see
         c = visible w s.opening r
 
         kept : (o : ℕ) (sl : Slot) → sl.number ≡ r → (w.master r).version < c.entry.version → (st : Stage)
-            → StateOk (h.entries sl.number) (w.master sl.number).version (draft h o sl.number) sl.body st → HasVersion st c.entry.version → KeptState s.opening c.entry.version st
+            → StateAt h.entries w.master (draft h) o sl st → HasVersion st c.entry.version → KeptState s.opening c.entry.version st
         kept o sl of lt Draft k q = absurd q
         kept o sl of lt (Live x) k q = q
         kept o sl of lt (Retired x t) k q = (
@@ -147,7 +147,7 @@ module _ (seen : ℕ → ℕ → Entry) (w : World) (h : History) (inv : Inv see
       go None q = refl
       go (Some b) q =
           let k = inv.drafts u r b q in
-          true_false (eqb r r) (eq-eqb r r refl) (at_age u k.0 (draft_slot r b) k.1 (draft_of r) e)
+          cc (eq-eqb r r refl, at_age u k.0 (draft_slot r b) k.1 (draft_of r) e)
 
   pub no_drafts_here : (u : ℕ) → has_drafts (w.slot u) (w.oldest u) ≡ false → (r : ℕ) → draft h u r ≡ None
   no_drafts_here u e r = go (draft h u r) refl
@@ -156,7 +156,7 @@ module _ (seen : ℕ → ℕ → Entry) (w : World) (h : History) (inv : Inv see
       go None q = refl
       go (Some b) q =
           let k = inv.drafts u r b q in
-          true_false true refl (at_age u k.0 (draft_slot r b) k.1 any_draft (is_some_false (least 8 (λ i. any_draft (w.slot u (place_of (w.oldest u) i)))) e))
+          cc (at_age u k.0 (draft_slot r b) k.1 any_draft (is_some_false (least 8 (λ i. any_draft (w.slot u (place_of (w.oldest u) i)))) e))
 
   -- the store says that u has a draft of r exactly when the history does
   pub has_draft_is : (u r : ℕ) → has_draft (w.slot u) (w.oldest u) r ≡ is_some (draft h u r)

@@ -1,24 +1,23 @@
 -- No write is lost: at most one user has a draft of a record, and while it has one, the record's last entry is the one that its section has seen.
-use Rattle.std.proofs.Common.{◌≡◌, ℕ, ◌<◌, ◌≤◌, true, false, cond, not, ◌&&◌, eqb, ltb, leb, ◌⊎◌, List, Some, None, Option, sym, refl, ap, ◌∙◌, subst, inl, inr, ⊎_elim, arith}
-use Rattle.std.proofs.lemmas.Bool.{ne_eqb, cases_eq, ltb-false, and_from, not_from_false}
+use Rattle.std.proofs.Common.{◌≡◌, ℕ, ◌<◌, ◌≤◌, true, false, cond, not, ◌&&◌, eqb, ◌⊎◌, List, Some, None, Option, sym, refl, ap, ◌∙◌, subst, inl, inr, ⊎_elim, arith}
+use Rattle.std.proofs.lemmas.Bool.{ne_eqb, cases_eq, and_from, not_from_false}
 use Rattle.interfaces.specs.Homes.{Meaning}
 use Rattle.model.specs.declared.body.Body.{Body}
-use Rattle.model.specs.declared.refusal.Refusal.{Refusal}
-use Rattle.model.specs.declared.refusal.Refusal.TheVariants.{NotOpen, NotServed, LockedByOther, NewerVersion}
 use Rattle.model.specs.Tools.{put, on_some, is_some, least}
-use Rattle.model.specs.Worlds.{Entry, Section, World, served, home_bytes, written, blank, first_hour}
-use Rattle.model.specs.Calls.{Call, Open, Find, Take, Lock, Put, Clear, Commit, Abort, Survey, Collect, Tick, Answer, refused, Turn, accepted}
+use Rattle.model.specs.Worlds.{Entry, Section, World, home_bytes, written, blank, first_hour}
+use Rattle.model.specs.Calls.{Call, Open, Find, Take, Lock, Put, Clear, Commit, Abort, Survey, Collect, Tick, Answer, Turn, accepted}
 use Rattle.model.specs.Versions.{newest}
-use Rattle.model.specs.Drafts.{draft_age, has_draft, locked_by_other}
-use Rattle.model.specs.Steps.{Outcome, lock_new, lock_step, own_step}
+use Rattle.model.specs.Drafts.{has_draft, locked_by_other}
+use Rattle.model.specs.Steps.{Outcome, lock_step, own_step}
 use Rattle.model.specs.History.{Reader, History, answered_version, draft_in, draft, finding, drafted, locking, editing, stored, change}
 use Rattle.laws.specs.Laws.{NoWriteLost}
 use Rattle.laws.specs.Theorems.{OfEveryRun}
-use Rattle.laws.proofs.Basics.{none_some, true_false, some_path, bool_case, option_case, put_case, unless_case, section_case, on_some_some, least_none}
-use Rattle.laws.proofs.Invariant.{SectionOk, Inv, opened_here}
+use Rattle.laws.proofs.Basics.{none_some, true_false, bool_case, option_case, put_case, on_some_some, least_none}
+use Rattle.laws.proofs.Invariant.{base, SectionOk, Inv, section_here}
 use Rattle.laws.proofs.Reading.{newest_is, draft_here, has_draft_is}
 use Rattle.laws.proofs.Carrying.{is_some_false}
 use Rattle.laws.proofs.Answers.{accepted_own}
+use Rattle.laws.proofs.Cases.{lock_cases}
 use Rattle.laws.proofs.Runs.{Run, run_of, get_lt, before_suc, past, seen, Kept, turn_at, apart}
 
 -- u's open section, opened at o, has a draft of r
@@ -78,28 +77,16 @@ module _ (seen' : ℕ → ℕ → Entry) where
     -- what an accepted first lock tells: no other has a draft of the record, and its last entry is the one that the section has seen
     lock_tells : (u r : ℕ) (a : Answer) → (lock_step w u r).answer ≡ a → accepted a ≡ true → draft h u r ≡ None
         → locked_by_other w.slot w.oldest u r ≡ false × ((rd : Reader) → h.section u ≡ Some rd → seen' rd.opened_at r ≡ (h.entries r).last)
-    unfolding lock_step
     lock_tells u r a =
-        section_case P w (w.section u) _ (refused' NotOpen) (λ s e. unless_case P w (leb (served w) r) NotServed _ (refused' NotServed) (λ _.
-        option_case (λ o. P (lock_new w u s r o)) (draft_age (w.slot u) (w.oldest u) r)
-        (λ _. unless_case P w (locked_by_other w.slot w.oldest u r) LockedByOther _ (refused' LockedByOther) (λ t.
-        unless_case P w (ltb s.opening (newest w r).entry.version) NewerVersion _ (refused' NewerVersion) (λ l _ _ _. (
-          t,
-          λ rd is. (let op = opened_here seen' inv u s e in
-              let ok = subst (λ y. SectionOk seen' w.highest w.watermark h.entries w.master w.slot u s y) (some_path op.rd rd (sym op.is ∙ is)) op.ok in
-              based' s rd ok (ltb-false s.opening (newest w r).entry.version l)),
-        ))))
-        (λ i q _ _ n. (let d = draft_here seen' w h inv u r i q in none_some d.0 (sym n ∙ d.1)))))
+        lock_cases P w (λ why e t _. cc (ap accepted e)) u r
+        (λ s i l _ _ _. (l.no_other, λ rd is. based' s rd (section_here seen' inv u s rd l.open_section is) l.not_newer))
+        (λ s e i q _ _ n. (let d = draft_here seen' w h inv u r i q in cc d.1))
       where
         P : Outcome → Type 0
         P out = out.answer ≡ a → accepted a ≡ true → draft h u r ≡ None
             → locked_by_other w.slot w.oldest u r ≡ false × ((rd : Reader) → h.section u ≡ Some rd → seen' rd.opened_at r ≡ (h.entries r).last)
 
-        refused' : (why : Refusal) → refused why ≡ a → accepted a ≡ true → draft h u r ≡ None
-            → locked_by_other w.slot w.oldest u r ≡ false × ((rd : Reader) → h.section u ≡ Some rd → seen' rd.opened_at r ≡ (h.entries r).last)
-        refused' why e t _ = true_false (accepted a) t (ap accepted (sym e))
-
-        based' : (s : Section) (rd : Reader) → SectionOk seen' w.highest w.watermark h.entries w.master w.slot u s rd → (newest w r).entry.version ≤ s.opening
+        based' : (s : Section) (rd : Reader) → SectionOk seen' (base w h) u s rd → (newest w r).entry.version ≤ s.opening
             → seen' rd.opened_at r ≡ (h.entries r).last
         based' s rd ok le =
             let led = inv.ledgers r in
