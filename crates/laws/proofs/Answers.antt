@@ -111,3 +111,6 @@ module _ (seen : ℕ → ℕ → Entry) (w : World) (h : History) (inv : Inv see
 -- what was accepted was asked at the right door
 pub accepted_own : (w : World) (s : ℕ) (d : Door) (call : Call) (a : Answer) → (step w s d call).answer ≡ a → accepted a ≡ true → step w s d call ≡ own_step w s call
 accepted_own w s d call a = step_cases (λ out. out.answer ≡ a → accepted a ≡ true → out ≡ own_step w s call) w (λ why e t. cc (ap accepted e)) s d call (λ _ _ _. refl)
+
+pub own_answered : (w : World) (s : ℕ) (d : Door) (call : Call) (a : Answer) → (step w s d call).answer ≡ a → accepted a ≡ true → (own_step w s call).answer ≡ a
+own_answered w s d call a e t = ap (λ out. out.answer) (sym (accepted_own w s d call a e t)) ∙ e

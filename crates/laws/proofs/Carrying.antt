@@ -1,5 +1,5 @@
 -- How the parts of the invariant are carried over a turn.
-use Rattle.std.proofs.Common.{◌≡◌, ℕ, ◌<◌, ◌≤◌, true, false, cond, ◌⊎◌, Some, None, Option, sym, refl, ◌∙◌, subst, inl, inr, ⊎_elim, arith}
+use Rattle.std.proofs.Common.{◌≡◌, ℕ, ◌<◌, ◌≤◌, true, cond, ◌⊎◌, Some, None, Option, sym, refl, ◌∙◌, subst, inl, inr, ⊎_elim, arith}
 use mathlib.Core.Path.{fun_ext}
 use Rattle.model.specs.declared.body.Body.{Body}
 use Rattle.model.specs.declared.slot.Stage.{Stage}
@@ -8,16 +8,12 @@ use Rattle.model.specs.declared.slot.Slot.{Slot}
 use Rattle.model.specs.declared.slot.Master.{Master}
 use Rattle.model.specs.declared.slot.Hold.{Hold}
 use Rattle.model.specs.declared.slot.Hold.TheVariants.{Unset, OnMaster, OnSlot}
-use Rattle.model.specs.Tools.{put, on_some, is_some}
+use Rattle.model.specs.Tools.{put, on_some}
 use Rattle.model.specs.Worlds.{Entry, Section, World, world, with_slots, put_slot}
 use Rattle.model.specs.Drafts.{is_draft}
 use Rattle.model.specs.History.{Reader, Entries, History, draft_in, draft, with_reader}
 use Rattle.laws.proofs.Basics.{eq_case, put_case, HasVersion}
 use Rattle.laws.proofs.Invariant.{Ent, Ledger, StateAt, SlotsOk, DraftsOk, SlotWith, CoverOk, KeptState, HoldOk, Base, base, SectionOk, Match, Inv, carry_sections}
-
-pub is_some_false : {A : Type 0} (o : Option A) → is_some o ≡ false → o ≡ None
-is_some_false None q = refl
-is_some_false (Some x) q = cc
 
 -- the drafts are the same if the one section that changed keeps its own
 pub same_drafts : (h : History) (u : ℕ) (q : Option Reader) → ((r : ℕ) → draft_in q r ≡ draft_in (h.section u) r) → draft (with_reader h u q) ≡ draft h

@@ -17,8 +17,7 @@ use Rattle.model.specs.Calls.{Call, opened, taken, done, committed, collected, f
 use Rattle.model.specs.Versions.{place_of, visible, newest}
 use Rattle.model.specs.Drafts.{draft_age, has_draft, has_drafts, locked_by_other, free_age, undrafted}
 use Rattle.model.specs.Steps.{a_mark, a_next, Outcome, gives, gives_by, refuse, unless, in_section, of_served, of_draft, unless_fault, fresh, open_step, find_version, find_draft, find_in, find_step, held, take_from, take_step, lock_at, lock_new, lock_step, edit, put_step, clear_step, settle, commit_drafts, commit_step, abort_step, oldest_place, freed, written_back, collect_stage, collect_slot, collect_step, own_step, step}
-use Rattle.laws.proofs.Basics.{bool_case, option_case, least_some}
-use Rattle.laws.proofs.Carrying.{is_some_false}
+use Rattle.laws.proofs.Basics.{is_some_false, bool_case, option_case, least_some}
 use Rattle.interfaces.specs.Homes as home
 
 -- u's section s may lock r, of which no user has a draft; the draft then stands at the age i

@@ -10,14 +10,14 @@ use Rattle.model.specs.declared.slot.Slot.{Slot}
 use Rattle.model.specs.declared.refusal.Refusal.{Refusal}
 use Rattle.model.specs.Tools.{put, on_some, is_some}
 use Rattle.model.specs.Worlds.{World, first_hour, written, blank, put_slot}
-use Rattle.model.specs.Calls.{Call, Open, Find, Take, Lock, Put, Clear, Commit, Abort, Survey, Collect, Tick, Turn}
+use Rattle.model.specs.Calls.{Call, Open, Find, Take, Lock, Put, Clear, Commit, Abort, Collect, Turn}
 use Rattle.model.specs.Versions.{place_of, newest}
 use Rattle.model.specs.Drafts.{is_draft, any_draft, has_draft, free_age, edited, settled_stage, settled}
 use Rattle.model.specs.Steps.{Outcome, refuse, edit, settle, survey_step, oldest_place, own_step, step}
 use Rattle.laws.specs.Runs.{Turned, Reached, begun, turned}
 use Rattle.laws.specs.Laws.{Ring, LogsInOrder}
 use Rattle.laws.specs.Theorems.{OfEveryWorld}
-use Rattle.laws.proofs.Basics.{eq_case, bool_case, option_case, put_case, edited_same, least_some, least_first}
+use Rattle.laws.proofs.Basics.{eq_case, bool_case, option_case, put_case, edited_same, least_some}
 use Rattle.laws.proofs.Cases.{step_cases, open_cases, find_cases, take_cases, lock_cases, put_cases, clear_cases, commit_cases, abort_cases, collect_cases}
 use Rattle.laws.proofs.Invariant.{draft_slot}
 
@@ -85,14 +85,14 @@ module _ (slots : ℕ → Option Slot) (first : ℕ) (r : Ring slots first) wher
       free : ℕ → Bool
       free j = not (is_some (slots (place_of first j)))
 
-      l : (i < 8) × (free i ≡ true)
+      l : (i < 8) × (free i ≡ true) × ((j : ℕ) → j < i → free j ≡ false)
       l = least_some 8 free i e
 
       is : i ≡ r.used
       is =
           let above = ltb-false i r.used (sym (r.in_a_row i l.0) ∙ not-true (is_some (slots (place_of first i))) l.1) in
           ⊎_elim (λ h. (let k = r.used in
-          let z = ltb-true k k (sym (r.in_a_row k (omega (arith, h, l.0))) ∙ not-false (is_some (slots (place_of first k))) (least_first 8 free i e k h)) in
+          let z = ltb-true k k (sym (r.in_a_row k (omega (arith, h, l.0))) ∙ not-false (is_some (slots (place_of first k))) (l.2 k h)) in
           absurd (let f : ⊥ = omega (arith, z) in f))) (λ h. omega (arith, h, above)) (cases_lt r.used i)
 
       other : (j : ℕ) → (place_of first j ≡ place_of first i → ⊥) → j ≡ r.used → ⊥
@@ -195,13 +195,12 @@ module _ (w : World) (rings : Rings w) where
       abort_cases Stay w no u (λ o.
       eq_case (λ b. Ring (λ p. cond (b && any_draft (w.slot o p)) None (w.slot o p)) (w.oldest o)) o u
       (λ _. aborted_ring (w.slot o) (w.oldest o) (rings o)) (λ _. rings o))
-  own_step_rings c Survey = rings
   own_step_rings c (Collect u) =
       collect_cases Stay w no c u (λ _. rings)
       (λ _ _ _ _ _ _ o. eq_case (λ b. Ring (cond b (put (w.slot u) (oldest_place w u) None) (w.slot o)) (cond b (place_of (w.oldest u) 1) (w.oldest o))) o u
       (λ _. freed_ring (w.slot u) (w.oldest u) (rings u)) (λ _. rings o))
       (λ sl e v q _ _. one_ring u (oldest_place w u) _ (over_ring (w.slot u) (w.oldest u) (rings u) (oldest_place w u) sl _ e (ap is_draft q)))
-  own_step_rings c (Tick t) = rings
+  own_step_rings c _ = rings
 
   step_rings : (c : ℕ) (d : Door) (call : Call) → Stay (step w c d call)
   step_rings c d call = step_cases Stay w no c d call (λ _. own_step_rings c call)

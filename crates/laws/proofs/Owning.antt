@@ -12,7 +12,7 @@ use Rattle.model.specs.declared.door.Door.{Door}
 use Rattle.model.specs.declared.door.Door.TheVariants.{Host}
 use Rattle.model.specs.Tools.{put, on_some}
 use Rattle.model.specs.Worlds.{Entry, Section, World, home_bytes, part, written, blank, first_hour, with_slots, put_slot}
-use Rattle.model.specs.Calls.{Call, Open, Find, Take, Lock, Put, Clear, Commit, Abort, Survey, Collect, Tick, taken, Turn, turn}
+use Rattle.model.specs.Calls.{Call, Open, Find, Take, Lock, Put, Clear, Commit, Abort, Collect, taken, Turn, turn}
 use Rattle.model.specs.Versions.{place_of, visible, newest}
 use Rattle.model.specs.Drafts.{is_draft, any_draft, edited, undrafted, settled}
 use Rattle.model.specs.Steps.{fresh, Outcome, holding, held, take_step, settle, survey_step, oldest_place, own_step, step}
@@ -24,7 +24,7 @@ use Rattle.laws.proofs.Cases.{free_here, step_cases, open_cases, find_cases, tak
 use Rattle.laws.proofs.Invariant.{draft_slot, Inv}
 use Rattle.laws.proofs.Reading.{draft_here, no_draft_here}
 use Rattle.laws.proofs.Carrying.{put_slot_case}
-use Rattle.laws.proofs.Answers.{accepted_own}
+use Rattle.laws.proofs.Answers.{own_answered}
 use Rattle.laws.proofs.Runs.{Run, run_of, before_suc, past, seen, Kept, turn_at}
 
 -- of u's log, with the holds of its section in the store and in the history
@@ -144,11 +144,10 @@ module _ (seen : ℕ → ℕ → Entry) (w : World) (h : History) (inv : Inv see
         cond_both (eqb v u && any_draft (w.slot v p)) None (w.slot v p) (λ y. y ≡ Some (draft_slot r b))
             (λ t. absurd (n (eqb-true v u (and_parts (eqb v u) (any_draft (w.slot v p)) t).0))) (λ _. e),
       )))
-  own_step_owns c Survey = own
   own_step_owns c (Collect u) =
       collect_cases (KeepsOwn (Collect u)) w (λ _. own) c u (λ _. own)
       (λ sl e v t q _. collect_owns u sl e (ap is_draft q) None) (λ sl e v q _ _. collect_owns u sl e (ap is_draft q) _)
-  own_step_owns c (Tick t) = own
+  own_step_owns c _ = own
 
   step_owns : (c : ℕ) (d : Door) (call : Call) → KeepsOwn call (step w c d call)
   step_owns c d call = step_cases (KeepsOwn call) w (λ _. own) c d call (λ _. own_step_owns c call)
@@ -184,9 +183,8 @@ module _ (home : Meaning) (highest : ℕ) (ts : List Turn) (x : World) (run : Ru
   takes_own : DraftsOwn (home_bytes home) ts
   takes_own k hold offset count r rd bs at holds =
       let t = turn_at home highest ts x run OwnAt own_first own_kept k _ at.is in
-      let s = t.turned.stamp in
       draft_answer (seen home highest ts x run) t.world (past home highest ts x run k) t.inv t.holds k at.user hold offset count bs rd r at.open_section holds
-      (ap (λ out. out.answer) (sym (accepted_own t.world s at.door (Take at.user hold offset count) (taken bs) t.turned.answers refl)) ∙ t.turned.answers)
+      (own_answered t.world t.turned.stamp at.door (Take at.user hold offset count) (taken bs) t.turned.answers refl)
 
 pub drafts_own : OfEveryRun DraftsOwn
 drafts_own home highest ts x reached = takes_own home highest ts x (run_of reached)

@@ -10,9 +10,8 @@ use Rattle.model.specs.Worlds.{Entry, Section, World}
 use Rattle.model.specs.Versions.{place_of, Seen, visible, newest}
 use Rattle.model.specs.Drafts.{is_draft, any_draft, draft_of, draft_age, has_draft, has_drafts}
 use Rattle.model.specs.History.{Reader, History, draft}
-use Rattle.laws.proofs.Basics.{least_some, least_none, HasVersion, age_of}
+use Rattle.laws.proofs.Basics.{is_some_false, least_some, least_none, HasVersion, age_of}
 use Rattle.laws.proofs.Invariant.{entry, Ent, Ledger, StateAt, draft_slot, KeptState, HoldOk, base, SectionOk, Inv}
-use Rattle.laws.proofs.Carrying.{is_some_false}
 use Rattle.laws.proofs.Seeing.{InSlot, Highest, look}
 
 draft_is : (r : ℕ) (o : Option Slot) → draft_of r o ≡ true → (b : Body) × (o ≡ Some (draft_slot r b))

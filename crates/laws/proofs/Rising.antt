@@ -3,7 +3,7 @@ use Rattle.std.proofs.Common.{◌≡◌, ℕ, ◌<◌, ◌≤◌, arith}
 use Rattle.model.specs.declared.door.Door.{Door}
 use Rattle.model.specs.declared.refusal.Refusal.{Refusal}
 use Rattle.model.specs.Worlds.{World}
-use Rattle.model.specs.Calls.{Call, Open, Find, Take, Lock, Put, Clear, Commit, Abort, Survey, Collect, Tick, committed}
+use Rattle.model.specs.Calls.{Call, Open, Find, Take, Lock, Put, Clear, Commit, Abort, Collect, committed}
 use Rattle.model.specs.Steps.{Outcome, Lawful, refuse, survey_step, own_step, step}
 use Rattle.laws.proofs.Cases.{step_cases, open_cases, find_cases, take_cases, lock_cases, put_cases, clear_cases, commit_cases, abort_cases, collect_cases}
 
@@ -29,9 +29,8 @@ module _ (w : World) (s : ℕ) where
   own_up (Clear u r) = clear_cases Up w no u r (λ _ _. kept)
   own_up (Commit u) = commit_cases Up w no s u (λ next. omega arith) (λ _. kept)
   own_up (Abort u) = abort_cases Up w no u kept
-  own_up Survey = kept
   own_up (Collect u) = collect_cases Up w no s u (λ _. kept) (λ _ _ _ _ _ _. kept) (λ _ _ _ _ _ _ next. omega arith)
-  own_up (Tick t) = kept
+  own_up _ = kept
 
   pub step_up : (d : Door) (call : Call) → Lawful w.highest s (step w s d call).drawn → w.highest ≤ (step w s d call).after.highest
   step_up d call = step_cases Up w no s d call (λ _. own_up call)

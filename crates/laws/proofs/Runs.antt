@@ -1,22 +1,23 @@
 -- The invariant at each position of a run, and from it the laws of equal finds and of held bytes.
-use Rattle.std.proofs.Common.{◌≡◌, ℕ, zero, suc, ◌+◌, ◌<◌, ◌≤◌, true, cond, ◌⊎◌, List, [], ◌∷◌, ◌++◌, length, take, drop, Some, None, Option, sym, refl, ap, ◌∙◌, subst, inl, inr, ⊎_elim, add-zero, add-suc, suc-add, zero-add, arith}
-use Rattle.std.proofs.lemmas.Bool.{cases_eq, cases_lt}
+use Rattle.std.proofs.Common.{◌≡◌, ℕ, zero, suc, ◌+◌, ◌<◌, ◌≤◌, true, ◌⊎◌, List, [], ◌∷◌, ◌++◌, length, take, drop, Some, None, Option, sym, refl, ap, ◌∙◌, subst, inl, inr, ⊎_elim, add-zero, add-suc, suc-add, zero-add, arith}
+use Rattle.std.proofs.lemmas.Bool.{cases_eq, cases_lt, cond_both}
+use Rattle.std.proofs.lemmas.Option.{same_Some}
 use Rattle.interfaces.specs.Homes.{Meaning}
 use Rattle.model.specs.declared.door.Door.{Door}
 use Rattle.model.specs.declared.body.Body.{Body}
 use Rattle.model.specs.declared.answer.State.{State}
 use Rattle.model.specs.Tools.{put, on_some, nth}
 use Rattle.model.specs.Worlds.{Entry, World, first_hour, home_bytes, part}
-use Rattle.model.specs.Calls.{Call, Open, Find, Take, Lock, Put, Clear, Commit, Abort, Survey, Collect, Tick, Answer, found, taken, committed, Turn, turn, accepted}
+use Rattle.model.specs.Calls.{Call, Open, Find, Take, Lock, Put, Clear, Commit, Abort, Answer, found, taken, committed, Turn, turn, accepted}
 use Rattle.model.specs.Drafts.{version_state}
-use Rattle.model.specs.Steps.{Lawful, own_step, step}
+use Rattle.model.specs.Steps.{Lawful, step}
 use Rattle.model.specs.History.{Reader, History, answered_version, draft, finding, locking, stored, change, fed, replay, outset, before}
 use Rattle.laws.specs.Runs.{Turned, Reached, begun, turned}
 use Rattle.laws.specs.Laws.{FindAt, CommitAt, StoreAt, Between, EqualFinds, StoredBy, HeldBytes}
 use Rattle.laws.specs.Theorems.{OfEveryRun}
-use Rattle.laws.proofs.Basics.{none_some, some_path, bool_case, put_case, on_some_some}
+use Rattle.laws.proofs.Basics.{put_case, on_some_some}
 use Rattle.laws.proofs.Invariant.{entry, Inv}
-use Rattle.laws.proofs.Answers.{outset_inv, step_good, find_answer, take_answer, commit_answer, accepted_own}
+use Rattle.laws.proofs.Answers.{outset_inv, step_good, find_answer, take_answer, commit_answer, accepted_own, own_answered}
 use Rattle.laws.proofs.Rising.{step_up, commit_stamped}
 
 -- the turns, one after another from the first on, take the world w to the world x
@@ -34,12 +35,14 @@ run_of (turned r t) = run_more _ _ _ _ _ (run_of r) t
 
 -- Positions in a list of turns.
 
-gap : (i j : ℕ) → i ≤ j → (d : ℕ) × (i + d ≡ j)
-gap i zero le = (0, omega arith)
-gap i (suc j) le = ⊎_elim (λ e. (0, omega arith)) (λ n. (let g = gap i j (omega arith) in (suc g.0, omega (arith, g.1)))) (cases_eq i (suc j))
+-- what holds at i and goes on from each position to the next holds at j
+along : (P : ℕ → Type 0) (i j : ℕ) → i ≤ j → P i → ((k : ℕ) → i ≤ k → k < j → P k → P (suc k)) → P j
+along P i zero le p on = let e : i ≡ 0 = omega arith in subst P e p
+along P i (suc j) le p on =
+    ⊎_elim (λ e. subst P e p) (λ n. on j (omega arith) (omega arith) (along P i j (omega arith) p (λ k a l q. on k a (omega arith) q))) (cases_eq i (suc j))
 
 pub get_lt : (ts : List Turn) (k : ℕ) (t : Turn) → nth ts k ≡ Some t → k < length ts
-get_lt [] k t e = none_some t e
+get_lt [] k t e = cc
 get_lt (x ∷ xs) zero t e = omega arith
 get_lt (x ∷ xs) (suc k) t e = omega (arith, get_lt xs k t e)
 
@@ -49,8 +52,8 @@ get_drop (x ∷ xs) zero h = (x, refl, refl)
 get_drop (x ∷ xs) (suc k) h = get_drop xs k (omega arith)
 
 replay_suc : (ts : List Turn) (j : ℕ) (h : History) (k : ℕ) (t : Turn) → nth ts k ≡ Some t → replay j h (take (suc k) ts) ≡ fed (j + k) (replay j h (take k ts)) t
-replay_suc [] j h k t e = none_some t e
-replay_suc (x ∷ xs) j h zero t e = ap (fed j h) (some_path x t e) ∙ ap (λ y. fed y h t) (sym (add-zero j))
+replay_suc [] j h k t e = cc
+replay_suc (x ∷ xs) j h zero t e = ap (fed j h) (same_Some x t e) ∙ ap (λ y. fed y h t) (sym (add-zero j))
 replay_suc (x ∷ xs) j h (suc k) t e = replay_suc xs (suc j) (fed j h x) k t e ∙ ap (λ y. fed y (replay (suc j) (fed j h x) (take k xs)) t) (suc-add j k ∙ sym (add-suc j k))
 
 module _ (first : ℕ → List ℕ) (ts : List Turn) where
@@ -82,31 +85,28 @@ module _ (first : ℕ → List ℕ) (ts : List Turn) where
           (λ _ q. (let g = on_some_some f (h.section v) rd q in subst (OpenedBy (suc k)) (sym (same g.0) ∙ ap (λ y. y.opened_at) g.2) (kept v g.0 g.1))) (λ _ q. kept u rd q)
 
       closed : (v u : ℕ) (rd : Reader) → put h.section v None u ≡ Some rd → OpenedBy (suc k) rd.opened_at
-      closed v u rd = put_case (λ y. y ≡ Some rd → OpenedBy (suc k) rd.opened_at) h.section v None u (λ _ q. none_some rd q) (λ _ q. kept u rd q)
+      closed v u rd = put_case (λ y. y ≡ Some rd → OpenedBy (suc k) rd.opened_at) h.section v None u (λ _ q. cc) (λ _ q. kept u rd q)
 
       go : (call : Call) → nth ts k ≡ Some (turn d call a) → (u : ℕ) (rd : Reader) → (change k h call a).section u ≡ Some rd → OpenedBy (suc k) rd.opened_at
       go (Open v) e u rd =
           put_case (λ y. y ≡ Some rd → OpenedBy (suc k) rd.opened_at) h.section v _ u
-          (λ _ q. subst (OpenedBy (suc k)) (ap (λ y. y.opened_at) (some_path _ rd q)) (record { earlier = omega arith; door = d; user = v; answer = a; is = e })) (λ _ q. kept u rd q)
+          (λ _ q. subst (OpenedBy (suc k)) (ap (λ y. y.opened_at) (same_Some _ rd q)) (record { earlier = omega arith; door = d; user = v; answer = a; is = e })) (λ _ q. kept u rd q)
       go (Find v i r) e u rd = changed (finding i r (answered_version a)) (λ x. refl) v u rd
-      go (Take v i offset count) e u rd = kept u rd
       go (Lock v r) e u rd = changed (locking r (h.entries r).last.body) (λ x. refl) v u rd
       go (Put v r offset bytes) e u rd = changed _ (λ x. refl) v u rd
       go (Clear v r) e u rd = changed _ (λ x. refl) v u rd
       go (Commit v) e u rd = closed v u rd
       go (Abort v) e u rd = closed v u rd
-      go Survey e u rd = kept u rd
-      go (Collect v) e u rd = kept u rd
-      go (Tick t) e u rd = kept u rd
+      go _ e u rd = kept u rd
 
   opened_fed : (k : ℕ) (h : History) (t : Turn) → nth ts k ≡ Some t → ((u : ℕ) (rd : Reader) → h.section u ≡ Some rd → OpenedBy k rd.opened_at)
       → (u : ℕ) (rd : Reader) → (fed k h t).section u ≡ Some rd → OpenedBy (suc k) rd.opened_at
   opened_fed k h t e ih u rd =
-      bool_case (λ b. (cond b (change k h t.call t.answer) h).section u ≡ Some rd → OpenedBy (suc k) rd.opened_at) (accepted t.answer)
+      cond_both (accepted t.answer) (change k h t.call t.answer) h (λ (y : History). y.section u ≡ Some rd → OpenedBy (suc k) rd.opened_at)
       (λ _. opened_change k h t.door t.call t.answer e ih u rd) (λ _ q. later k rd.opened_at (ih u rd q))
 
   opened_by : (k : ℕ) → k ≤ length ts → (u : ℕ) (rd : Reader) → (before first ts k).section u ≡ Some rd → OpenedBy k rd.opened_at
-  opened_by zero le u rd e = none_some rd e
+  opened_by zero le u rd e = cc
   opened_by (suc k) le u rd e =
       let g = get_drop ts k (omega arith) in
       opened_fed k (before first ts k) g.0 g.1 (opened_by k (omega arith)) u rd (subst (λ y. y.section u ≡ Some rd) (before_suc k g.0 g.1) e)
@@ -157,7 +157,7 @@ module _ (home : Meaning) (highest : ℕ) (ts : List Turn) (x : World) (run : Ru
         let lt = get_lt ts k t e in
         let a = at k (omega arith) in
         let g = get_drop ts k lt in
-        let c = subst (λ l. Run a.world l x) (g.2 ∙ ap (λ y. y ∷ drop (suc k) ts) (some_path g.0 t (sym g.1 ∙ e))) a.rest in
+        let c = subst (λ l. Run a.world l x) (g.2 ∙ ap (λ y. y ∷ drop (suc k) ts) (same_Some g.0 t (sym g.1 ∙ e))) a.rest in
         record { world = a.world; inv = a.inv; holds = a.holds; behind = c.0; turned = c.1 }
 
   -- Commits.
@@ -169,7 +169,7 @@ module _ (home : Meaning) (highest : ℕ) (ts : List Turn) (x : World) (run : Ru
   bounded : Kept Bounded
   unfolding Bounded
   bounded k t y z e inv d ih n c at lt =
-      ⊎_elim (λ q. here (some_path _ t (sym at.is ∙ ap (nth ts) q ∙ e)))
+      ⊎_elim (λ q. here (same_Some _ t (sym at.is ∙ ap (nth ts) q ∙ e)))
       (λ ne. (let up = step_up y d.stamp t.door t.call d.lawful in
       let low = ih n c at (omega arith) in
       let after : (step y d.stamp t.door t.call).after.highest ≡ z.highest = ap (λ v. v.highest) d.leaves in
@@ -215,37 +215,20 @@ module _ (home : Meaning) (highest : ℕ) (ts : List Turn) (x : World) (run : Ru
   -- a commit of r at m: the last entry after it, and its version is new
   commit_last : (m r c : ℕ) (b : Body) → StoreAt (home_bytes home) ts m r c b → (seen (suc m) r ≡ entry c b) × ((seen m r).version < c)
   commit_last m r c b k =
-      (ap (λ y. (y.entries r).last) (before_suc (home_bytes home) ts m _ k.commit.is) ∙ ap (λ d. (stored c d ((past m).entries r)).last) k.carries, new)
-    where
-      same_stamp : (y z : ℕ) → committed y ≡ committed z → y ≡ z
-      same_stamp y z e = cc
-
-      new : (seen m r).version < c
-      new =
-          let a = carrying m k.commit.user r k.commit.door (committed c) b k.commit.is refl k.carries in
-          let e = same_stamp c a.0 a.1 in
-          omega (arith, a.2, e)
+      let a = carrying m k.commit.user r k.commit.door (committed c) b k.commit.is refl k.carries in
+      let e : c ≡ a.0 = cc a.1 in
+      (ap (λ y. (y.entries r).last) (before_suc (home_bytes home) ts m _ k.commit.is) ∙ ap (λ d. (stored c d ((past m).entries r)).last) k.carries, omega (arith, a.2, e))
 
   -- one turn leaves the last entry of r, or is a commit of r
   one_turn : (k r : ℕ) → k < length ts → (seen (suc k) r ≡ seen k r) ⊎ ((c : ℕ) × (b : Body) × StoreAt (home_bytes home) ts k r c b)
   one_turn k r lt =
       let g = get_drop ts k lt in
       subst (λ y. ((y.entries r).last ≡ seen k r) ⊎ ((c : ℕ) × (b : Body) × StoreAt (home_bytes home) ts k r c b)) (sym (before_suc (home_bytes home) ts k g.0 g.1))
-      (bool_case (λ z. (((cond z (change k (past k) g.0.call g.0.answer) (past k)).entries r).last ≡ seen k r) ⊎ ((c : ℕ) × (b : Body) × StoreAt (home_bytes home) ts k r c b)) (accepted g.0.answer)
+      (cond_both (accepted g.0.answer) (change k (past k) g.0.call g.0.answer) (past k) (λ (y : History). ((y.entries r).last ≡ seen k r) ⊎ ((c : ℕ) × (b : Body) × StoreAt (home_bytes home) ts k r c b))
       (λ t. by g.0.door g.0.call g.0.answer g.1 t) (λ _. inl refl))
     where
       by : (d : Door) (call : Call) (a : Answer) → nth ts k ≡ Some (turn d call a) → accepted a ≡ true
           → (((change k (past k) call a).entries r).last ≡ seen k r) ⊎ ((c : ℕ) × (b : Body) × StoreAt (home_bytes home) ts k r c b)
-      by d (Open u) a e t = inl refl
-      by d (Find u i q) a e t = inl refl
-      by d (Take u i offset count) a e t = inl refl
-      by d (Lock u q) a e t = inl refl
-      by d (Put u q offset bytes) a e t = inl refl
-      by d (Clear u q) a e t = inl refl
-      by d (Abort u) a e t = inl refl
-      by d Survey a e t = inl refl
-      by d (Collect u) a e t = inl refl
-      by d (Tick y) a e t = inl refl
       by d (Commit u) a e t = go (draft (past k) u r) refl
         where
           go : (d : Option Body) → draft (past k) u r ≡ d → ((stored (answered_version a) d ((past k).entries r)).last ≡ seen k r) ⊎ ((c : ℕ) × (b : Body) × StoreAt (home_bytes home) ts k r c b)
@@ -253,6 +236,7 @@ module _ (home : Meaning) (highest : ℕ) (ts : List Turn) (x : World) (run : Ru
           go (Some b) q =
               let z = carrying k u r d a b e t q in
               inr (z.0, b, record { commit = record { door = d; user = u; is = e ∙ ap (λ v. Some (turn d (Commit u) v)) z.1 }; carries = q })
+      by d _ a e t = inl refl
 
   -- versions only grow
   grow_one : (k r : ℕ) → k < length ts → (seen k r).version ≤ (seen (suc k) r).version
@@ -260,21 +244,13 @@ module _ (home : Meaning) (highest : ℕ) (ts : List Turn) (x : World) (run : Ru
       ⊎_elim (λ e. let q : (seen (suc k) r).version ≡ (seen k r).version = ap (λ y. y.version) e in omega (arith, q))
       (λ z. let l = commit_last k r z.0 z.1 z.2 in let q : (seen (suc k) r).version ≡ z.0 = ap (λ y. y.version) l.0 in omega (arith, q, l.1)) (one_turn k r lt)
 
-  grow : (i d r : ℕ) → i + d ≤ length ts → (seen i r).version ≤ (seen (i + d) r).version
-  grow i zero r le = subst (λ y. (seen i r).version ≤ (seen y r).version) (sym (add-zero i)) (omega arith)
-  grow i (suc d) r le =
-      subst (λ y. (seen i r).version ≤ (seen y r).version) (sym (add-suc i d)) (omega (arith, grow i d r (omega arith), grow_one (i + d) r (omega arith)))
-
   grows : (i j r : ℕ) → i ≤ j → j ≤ length ts → (seen i r).version ≤ (seen j r).version
-  grows i j r le lj = let g = gap i j le in subst (λ y. (seen i r).version ≤ (seen y r).version) g.1 (grow i g.0 r (omega (arith, g.1)))
+  grows i j r le lj = along (λ y. (seen i r).version ≤ (seen y r).version) i j le (omega arith) (λ k a l ih. omega (arith, ih, grow_one k r (omega arith)))
 
   -- with no commit of r on the way the last entry stays
-  same_last : (i d r : ℕ) → i + d ≤ length ts → ((m c : ℕ) (b : Body) → StoreAt (home_bytes home) ts m r c b → i ≤ m → m < i + d → ⊥) → seen (i + d) r ≡ seen i r
-  same_last i zero r le no' = ap (λ y. seen y r) (add-zero i)
-  same_last i (suc d) r le no' =
-      ap (λ y. seen y r) (add-suc i d)
-      ∙ ⊎_elim (λ e. e) (λ z. absurd (no' (i + d) z.0 z.1 z.2 (omega arith) (omega arith))) (one_turn (i + d) r (omega arith))
-      ∙ same_last i d r (omega arith) (λ m c b k a l. no' m c b k a (omega arith))
+  same_between : (i j r : ℕ) → i ≤ j → j ≤ length ts → ((m c : ℕ) (b : Body) → StoreAt (home_bytes home) ts m r c b → i ≤ m → m < j → ⊥) → seen j r ≡ seen i r
+  same_between i j r le lj no' =
+      along (λ y. seen y r ≡ seen i r) i j le refl (λ k a l ih. ⊎_elim (λ e. e ∙ ih) (λ z. absurd (no' k z.0 z.1 z.2 a l)) (one_turn k r (omega arith)))
 
   -- where the last entry came from
   pub record Origin (k r : ℕ) : Type 0 where
@@ -286,15 +262,14 @@ module _ (home : Meaning) (highest : ℕ) (ts : List Turn) (x : World) (run : Ru
     pub is : seen k r ≡ entry c b
 
   origin : (k r : ℕ) → k ≤ length ts → (seen k r ≡ seen 0 r) ⊎ Origin k r
-  origin zero r le = inl refl
-  origin (suc k) r le = ⊎_elim (old (origin k r (omega arith))) new (one_turn k r (omega arith))
+  origin k r le = along (λ y. (seen y r ≡ seen 0 r) ⊎ Origin y r) 0 k (omega arith) (inl refl) (λ j a l ih. ⊎_elim (old j ih) (new j) (one_turn j r (omega arith)))
     where
-      old : (seen k r ≡ seen 0 r) ⊎ Origin k r → seen (suc k) r ≡ seen k r → (seen (suc k) r ≡ seen 0 r) ⊎ Origin (suc k) r
-      old (inl e) q = inl (q ∙ e)
-      old (inr o) q = inr (record { m = o.m; c = o.c; b = o.b; commit = o.commit; earlier = omega (arith, o.earlier); is = q ∙ o.is })
+      old : (j : ℕ) → (seen j r ≡ seen 0 r) ⊎ Origin j r → seen (suc j) r ≡ seen j r → (seen (suc j) r ≡ seen 0 r) ⊎ Origin (suc j) r
+      old j (inl e) q = inl (q ∙ e)
+      old j (inr o) q = inr (record { m = o.m; c = o.c; b = o.b; commit = o.commit; earlier = omega (arith, o.earlier); is = q ∙ o.is })
 
-      new : ((c : ℕ) × (b : Body) × StoreAt (home_bytes home) ts k r c b) → (seen (suc k) r ≡ seen 0 r) ⊎ Origin (suc k) r
-      new z = inr (record { m = k; c = z.0; b = z.1; commit = z.2; earlier = omega arith; is = (commit_last k r z.0 z.1 z.2).0 })
+      new : (j : ℕ) → ((c : ℕ) × (b : Body) × StoreAt (home_bytes home) ts j r c b) → (seen (suc j) r ≡ seen 0 r) ⊎ Origin (suc j) r
+      new j z = inr (record { m = j; c = z.0; b = z.1; commit = z.2; earlier = omega arith; is = (commit_last j r z.0 z.1 z.2).0 })
 
   -- a commit of r between two positions tells the versions apart
   pub apart : (i j r m c : ℕ) (b : Body) → StoreAt (home_bytes home) ts m r c b → i ≤ m → m < j → j ≤ length ts → (seen i r).version < (seen j r).version
@@ -312,20 +287,15 @@ module _ (home : Meaning) (highest : ℕ) (ts : List Turn) (x : World) (run : Ru
     fits : o < length ts
     opens : (m c : ℕ) (b : Body) → StoreAt (home_bytes home) ts m r c b → m ≡ o → ⊥
 
-  commit_open : (d e : Door) (c u v : ℕ) (a : Answer) → Some (turn d (Commit u) (committed c)) ≡ Some (turn e (Open v) a) → ⊥
-  commit_open d e c u v a p =
-      let q : Commit u ≡ Open v = ap (λ (t : Turn). t.call) (some_path (turn d (Commit u) (committed c)) (turn e (Open v) a) p) in
-      let z : ◌≡◌ {A = ℕ} 0 1 = cc in omega arith
-
-  -- an accepted turn is answered by the own step
-  own_answer : (k : ℕ) (d : Door) (call : Call) (a : Answer) (t : TurnAt (λ _ _. Unit {0}) k (turn d call a)) → accepted a ≡ true → (own_step t.world t.turned.stamp call).answer ≡ a
-  own_answer k d call a t yes' = sym (ap (λ out. out.answer) (accepted_own t.world t.turned.stamp d call a t.turned.answers yes')) ∙ t.turned.answers
+  -- a turn that opens is no commit
+  no_commit : (d e : Door) (c u v : ℕ) (a : Answer) → Some (turn d (Commit u) (committed c)) ≡ Some (turn e (Open v) a) → ⊥
+  no_commit d e c u v a p = cc (ap (λ (t : Turn). t.call) (same_Some (turn d (Commit u) (committed c)) (turn e (Open v) a) p))
 
   saw : (k r o : ℕ) (st : State) (v : ℕ) → FindAt (home_bytes home) ts k r o st v → Saw r o st v
   saw k r o st v f =
       let t = turned_at k _ f.is in
       let a = find_answer seen t.world (past k) t.inv f.user f.hold r st v f.reader f.open_section f.no_draft
-      (own_answer k f.door (Find f.user f.hold r) (found st v) t refl) in
+      (own_answered t.world t.turned.stamp f.door (Find f.user f.hold r) (found st v) t.turned.answers refl) in
       let lt = get_lt ts k _ f.is in
       let b = opened_by (home_bytes home) ts k (omega arith) f.user f.reader f.open_section in
       subst (λ y. Saw r y st v) f.opened
@@ -333,13 +303,8 @@ module _ (home : Meaning) (highest : ℕ) (ts : List Turn) (x : World) (run : Ru
         state = a.0;
         version = a.1;
         fits = omega (arith, b.earlier, lt);
-        opens = λ m c y z e. commit_open z.commit.door b.door c z.commit.user b.user b.answer (sym z.commit.is ∙ ap (nth ts) e ∙ b.is);
+        opens = λ m c y z e. no_commit z.commit.door b.door c z.commit.user b.user b.answer (sym z.commit.is ∙ ap (nth ts) e ∙ b.is);
       })
-
-  same_between : (i j r : ℕ) → i ≤ j → j ≤ length ts → ((m c : ℕ) (b : Body) → StoreAt (home_bytes home) ts m r c b → i ≤ m → m < j → ⊥) → seen j r ≡ seen i r
-  same_between i j r le lj no' =
-      let g = gap i j le in
-      subst (λ y. seen y r ≡ seen i r) g.1 (same_last i g.0 r (omega (arith, g.1)) (λ m c b k a l. no' m c b k a (omega (arith, g.1))))
 
   find_law : EqualFinds (home_bytes home) ts
   find_law k₁ k₂ r o₁ o₂ v₁ v₂ st₁ st₂ f₁ f₂ = (only, whenever)
@@ -383,7 +348,7 @@ module _ (home : Meaning) (highest : ℕ) (ts : List Turn) (x : World) (run : Ru
       answer =
           let t = turned_at k _ f.is in
           take_answer seen t.world (past k) t.inv f.user hold offset count bs reader r v f.open_section holds
-          (own_answer k f.door (Take f.user hold offset count) (taken bs) t refl)
+          (own_answered t.world t.turned.stamp f.door (Take f.user hold offset count) (taken bs) t.turned.answers refl)
 
       first_zero : seen o r ≡ seen 0 r → v ≡ 0
       first_zero e = answer.0 ∙ ap (λ y. y.version) e

@@ -16,9 +16,9 @@ use Rattle.model.specs.Calls.{Open, Find, Take, Survey, Tick, done}
 use Rattle.model.specs.Versions.{place_of, opened_as, first_opened, visible}
 use Rattle.model.specs.Steps.{gives, fresh, open_step, holding, find_step, take_step, lowest_of, lowest, survey_step}
 use Rattle.model.specs.History.{nothing, version_of, Reader, History, draft_in, with_reader, held_by, finding}
-use Rattle.laws.proofs.Basics.{eq_case, option_case}
+use Rattle.laws.proofs.Basics.{is_some_false, eq_case, option_case}
 use Rattle.laws.proofs.Invariant.{HoldOk, base, SectionOk, Match, Inv, Good, Opened, opened_here, closed_here, carry_sections}
-use Rattle.laws.proofs.Carrying.{is_some_false, same_drafts, put_match, carry_section, keep_sections, new_sections}
+use Rattle.laws.proofs.Carrying.{same_drafts, put_match, carry_section, keep_sections, new_sections}
 use Rattle.laws.proofs.Cases.{open_cases, find_cases, take_cases}
 use Rattle.laws.proofs.Reading.{visible_is, visible_hold, draft_here}
 use Rattle.order.specs.Order.{In as InRow}

@@ -1,6 +1,7 @@
 -- The foremost version of a record within a limit: what the pick of the row of cells comes to.
-use Rattle.std.proofs.Common.{◌≡◌, ℕ, ◌+◌, ◌*◌, ◌/◌, ◌%◌, ◌<◌, ◌≤◌, true, cond, eqb, ◌⊎◌, List, length, get_or, Some, None, Option, sym, refl, ap, ◌∙◌, subst, inl, inr, ⊎_elim, zero-add, arith}
-use Rattle.std.proofs.lemmas.Bool.{eq-eqb, eqb-true, cases_lt, lt-ltb, leb-true, le-leb}
+use Rattle.std.proofs.Common.{◌≡◌, ℕ, ◌+◌, ◌*◌, ◌/◌, ◌%◌, ◌<◌, ◌≤◌, true, eqb, ◌⊎◌, List, length, get_or, Some, None, Option, sym, refl, ap, ◌∙◌, subst, inl, inr, ⊎_elim, zero-add, arith}
+use Rattle.std.proofs.lemmas.Bool.{eq-eqb, eqb-true, cases_lt, lt-ltb, leb-true, le-leb, cond_both}
+use Rattle.std.proofs.lemmas.Option.{same_Some, cond_some}
 use Rattle.std.proofs.lemmas.List.FromFn.{length-map-range_with_len, get_or-map-range_with_len}
 use Rattle.order.specs.Kinds.{PlaceBefore, CandidateBefore}
 use Rattle.order.specs.declared.candidate.Candidate.{Candidate}
@@ -12,7 +13,7 @@ use Rattle.model.specs.declared.slot.Slot.{Slot}
 use Rattle.model.specs.declared.slot.Hold.TheVariants.{OnMaster, OnSlot}
 use Rattle.model.specs.Worlds.{World, master_entry}
 use Rattle.model.specs.Versions.{place_of, within, if_within, stage_shows, slot_shows, cell, row, foremost, Seen, body_in, seen_at, seen_as}
-use Rattle.laws.proofs.Basics.{none_some, some_path, bool_case, HasVersion, age_of}
+use Rattle.laws.proofs.Basics.{HasVersion, age_of}
 use Rattle.laws.proofs.Invariant.{SlotWith}
 use Rattle.order.specs.Order.{In as InRow}
 use Rattle.order.specs.declared.candidate.Place.TheVariants as place
@@ -59,12 +60,10 @@ record ShowsVersion (limit : Option ℕ) (p : Place) (v : ℕ) (x : Candidate) :
   place : x.place ≡ p
 
 if_shows : (limit : Option ℕ) (v : ℕ) (p : Place) (x : Candidate) → if_within limit v p ≡ Some x → ShowsVersion limit p v x
-if_shows limit v p x =
-    bool_case (λ b. cond b (Some (record { version = v; place = p })) None ≡ Some x → ShowsVersion limit p v x) (within limit v)
-    (λ t e. (let q = some_path _ x e in
-    let ve : v ≡ x.version = ap (λ (y : Candidate). y.version) q in
-    record { version = ve; low = subst (Within limit) ve (within_low limit v t); place = sym (ap (λ (y : Candidate). y.place) q) }))
-    (λ _ e. none_some x e)
+if_shows limit v p x e =
+    let c = cond_some (within limit v) (record { version = v; place = p }) x e in
+    let same : v ≡ x.version = ap (λ (y : Candidate). y.version) c.1 in
+    record { version = same; low = subst (Within limit) same (within_low limit v c.0); place = sym (ap (λ (y : Candidate). y.place) c.1) }
 
 record ShowsSlot (r : ℕ) (limit : Option ℕ) (p : Place) (o : Option Slot) (x : Candidate) : Type 0 where
   sl : Slot
@@ -75,16 +74,16 @@ record ShowsSlot (r : ℕ) (limit : Option ℕ) (p : Place) (o : Option Slot) (x
   place : x.place ≡ p
 
 shows : (r : ℕ) (limit : Option ℕ) (p : Place) (o : Option Slot) (x : Candidate) → slot_shows r limit p o ≡ Some x → ShowsSlot r limit p o x
-shows r limit p None x e = none_some x e
+shows r limit p None x e = cc
 shows r limit p (Some sl) x e₀ =
-    bool_case (λ b. cond b (stage_shows limit p sl.stage) None ≡ Some x → ShowsSlot r limit p (Some sl) x) (eqb sl.number r)
-    (λ t e. at_stage sl.stage refl (eqb-true sl.number r t) e) (λ _ e. none_some x e) e₀
+    cond_both (eqb sl.number r) (stage_shows limit p sl.stage) None (λ o. o ≡ Some x → ShowsSlot r limit p (Some sl) x)
+    (λ t e. at_stage sl.stage refl (eqb-true sl.number r t) e) (λ _ e. cc) e₀
   where
     by : (v : ℕ) → HasVersion sl.stage v → sl.number ≡ r → ShowsVersion limit p v x → ShowsSlot r limit p (Some sl) x
     by v hv f u = record { sl = sl; there = refl; number = f; version = subst (HasVersion sl.stage) u.version hv; low = u.low; place = u.place }
 
     at_stage : (st : Stage) → sl.stage ≡ st → sl.number ≡ r → stage_shows limit p st ≡ Some x → ShowsSlot r limit p (Some sl) x
-    at_stage Draft q f e = none_some x e
+    at_stage Draft q f e = cc
     at_stage (Live v) q f e = by v (subst (λ y. HasVersion y v) (sym q) refl) f (if_shows limit v p x e)
     at_stage (Retired v t) q f e = by v (subst (λ y. HasVersion y v) (sym q) refl) f (if_shows limit v p x e)
 
@@ -181,7 +180,7 @@ module _ (w : World) (r : ℕ) (limit : Option ℕ) (master_low : Within limit (
     in_cell : (k : ℕ) → k < 65 → cell_at k ≡ Some x → Highest w r limit (seen_as w r (Some x))
     in_cell k lt c =
         ⊎_elim (λ l. at_slot k (shows r limit (place.Slot (k / 8) (k % 8)) (w.slot (k / 8) (place_of (w.oldest (k / 8)) (k % 8))) x (rw (lt-ltb k 64 l) at c)))
-        (λ ge. at_master (let last : k ≡ 64 = omega arith in some_path x mine (sym c ∙ ap cell_at last ∙ cell_master))) (cases_lt k 64)
+        (λ ge. at_master (let last : k ≡ 64 = omega arith in same_Some x mine (sym c ∙ ap cell_at last ∙ cell_master))) (cases_lt k 64)
 
     found : Highest w r limit (seen_as w r (Some x))
     unfolding foremost

@@ -1,22 +1,21 @@
 -- No write is lost: at most one user has a draft of a record, and while it has one, the record's last entry is the one that its section has seen.
-use Rattle.std.proofs.Common.{◌≡◌, ℕ, ◌<◌, ◌≤◌, true, false, cond, not, ◌&&◌, eqb, ◌⊎◌, List, Some, None, Option, sym, refl, ap, ◌∙◌, subst, inl, inr, ⊎_elim, arith}
-use Rattle.std.proofs.lemmas.Bool.{ne_eqb, cases_eq, and_from, not_from_false}
+use Rattle.std.proofs.Common.{◌≡◌, ℕ, ◌<◌, ◌≤◌, true, false, not, ◌&&◌, eqb, ◌⊎◌, List, Some, None, Option, sym, refl, ap, ◌∙◌, subst, inl, inr, ⊎_elim, arith}
+use Rattle.std.proofs.lemmas.Bool.{ne_eqb, cases_eq, and_from, not_from_false, cond_both}
 use Rattle.interfaces.specs.Homes.{Meaning}
 use Rattle.model.specs.declared.body.Body.{Body}
 use Rattle.model.specs.Tools.{put, on_some, is_some, least}
 use Rattle.model.specs.Worlds.{Entry, Section, World, home_bytes, written, blank, first_hour}
-use Rattle.model.specs.Calls.{Call, Open, Find, Take, Lock, Put, Clear, Commit, Abort, Survey, Collect, Tick, Answer, Turn, accepted}
+use Rattle.model.specs.Calls.{Call, Open, Find, Lock, Put, Clear, Commit, Abort, Answer, Turn, accepted}
 use Rattle.model.specs.Versions.{newest}
 use Rattle.model.specs.Drafts.{has_draft, locked_by_other}
 use Rattle.model.specs.Steps.{Outcome, lock_step, own_step}
 use Rattle.model.specs.History.{Reader, History, answered_version, draft_in, draft, finding, drafted, locking, editing, stored, change}
 use Rattle.laws.specs.Laws.{NoWriteLost}
 use Rattle.laws.specs.Theorems.{OfEveryRun}
-use Rattle.laws.proofs.Basics.{none_some, true_false, bool_case, option_case, put_case, on_some_some, least_none}
+use Rattle.laws.proofs.Basics.{is_some_false, option_case, put_case, on_some_some, least_none}
 use Rattle.laws.proofs.Invariant.{base, SectionOk, Inv, section_here}
 use Rattle.laws.proofs.Reading.{newest_is, draft_here, has_draft_is}
-use Rattle.laws.proofs.Carrying.{is_some_false}
-use Rattle.laws.proofs.Answers.{accepted_own}
+use Rattle.laws.proofs.Answers.{own_answered}
 use Rattle.laws.proofs.Cases.{lock_cases}
 use Rattle.laws.proofs.Runs.{Run, run_of, get_lt, before_suc, past, seen, Kept, turn_at, apart}
 
@@ -32,7 +31,7 @@ owned : (h : History) (u r : ℕ) (b : Body) → draft h u r ≡ Some b → (o :
 owned h u r b e = go (h.section u) refl e
   where
     go : (q : Option Reader) → h.section u ≡ q → draft_in q r ≡ Some b → (o : ℕ) × Owns h u r o
-    go None i k = none_some b k
+    go None i k = cc
     go (Some rd) i k = (rd.opened_at, record { rd = rd; b = b; is = i; has = k; at = refl })
 
 -- one user at most has a draft of a record, and the record's last entry is still what its section has seen
@@ -40,6 +39,10 @@ module _ (seen' : ℕ → ℕ → Entry) where
   pub record Alone (h : History) : Type 0 where
     pub one : (u v r o p : ℕ) → Owns h u r o → Owns h v r p → u ≡ v
     pub based : (u r o : ℕ) → Owns h u r o → seen' o r ≡ (h.entries r).last
+
+  -- of another history, where the section of v is the same
+  same_owns : {h h' : History} {u r o : ℕ} (v : ℕ) (x : Owns h u r o) → h'.section v ≡ Some x.rd → Owns h' v r o
+  same_owns v x e = record { rd = x.rd; b = x.b; is = e; has = x.has; at = x.at }
 
   -- fewer drafts, and the same entries
   fewer : (h h' : History) → ((u r o : ℕ) → Owns h' u r o → Owns h u r o) → ((u r o : ℕ) → Owns h' u r o → (h'.entries r).last ≡ (h.entries r).last) → Alone h → Alone h'
@@ -58,15 +61,15 @@ module _ (seen' : ℕ → ℕ → Entry) where
           (λ e q. (let g = on_some_some f (h.section v) x.rd q in
           let d = none_new g.0 r x.b (ap (λ y. y.draft r) g.2 ∙ x.has) in
           record { rd = g.0; b = d.0; is = ap h.section e ∙ g.1; has = d.1; at = sym (same g.0) ∙ ap (λ y. y.opened_at) g.2 ∙ x.at }))
-          (λ _ q. record { rd = x.rd; b = x.b; is = q; has = x.has; at = x.at }) x.is
+          (λ _ q. same_owns u x q) x.is
 
   -- a section without drafts, or none, in the place of v's
   replaced : (h : History) (v : ℕ) (q : Option Reader) → ((r : ℕ) → draft_in q r ≡ None) → (u r o : ℕ)
       → Owns (record { entries = h.entries; section = put h.section v q }) u r o → (u ≡ v → ⊥) × Owns h u r o
   replaced h v q no' u r o x =
       put_case (λ y. y ≡ Some x.rd → (u ≡ v → ⊥) × Owns h u r o) h.section v q u
-      (λ _ e. none_some x.b (sym (no' r) ∙ ap (λ y. draft_in y r) e ∙ x.has))
-      (λ n e. (n, record { rd = x.rd; b = x.b; is = e; has = x.has; at = x.at })) x.is
+      (λ _ e. cc (no' r, ap (λ y. draft_in y r) e, x.has))
+      (λ n e. (n, same_owns u x e)) x.is
 
   edits : (f : Body → Body) (q : ℕ) (y : Reader) (r : ℕ) (b : Body) → put y.draft q (on_some f (y.draft q)) r ≡ Some b → (c : Body) × (y.draft r ≡ Some c)
   edits f q y r b =
@@ -99,9 +102,8 @@ module _ (seen' : ℕ → ℕ → Entry) where
     not_other : (u r : ℕ) → locked_by_other w.slot w.oldest u r ≡ false → (v o : ℕ) → v < 8 → Owns h v r o → v ≡ u
     not_other u r e v o hv x =
         ⊎_elim (λ q. q) (λ n.
-        true_false (not (eqb v u) && has_draft (w.slot v) (w.oldest v) r)
-        (and_from (not (eqb v u)) (has_draft (w.slot v) (w.oldest v) r) (not_from_false (eqb v u) (ne_eqb v u n)) (has_draft_is seen' w h inv v r ∙ ap is_some (ap (λ y. draft_in y r) x.is ∙ x.has)))
-        (least_none 8 (λ y. not (eqb y u) && has_draft (w.slot y) (w.oldest y) r) (is_some_false (least 8 (λ y. not (eqb y u) && has_draft (w.slot y) (w.oldest y) r)) e) v hv)) (cases_eq v u)
+        cc (and_from (not (eqb v u)) (has_draft (w.slot v) (w.oldest v) r) (not_from_false (eqb v u) (ne_eqb v u n)) (has_draft_is seen' w h inv v r ∙ ap is_some (ap (λ y. draft_in y r) x.is ∙ x.has)),
+        least_none 8 (λ y. not (eqb y u) && has_draft (w.slot y) (w.oldest y) r) (is_some_false (least 8 (λ y. not (eqb y u) && has_draft (w.slot y) (w.oldest y) r)) e) v hv)) (cases_eq v u)
 
     user_fits : (u r o : ℕ) → Owns h u r o → u < 8
     user_fits u r o x = let k = inv.drafts u r x.b (ap (λ y. draft_in y r) x.is ∙ x.has) in (inv.slots u k.0 _ k.1).0
@@ -120,7 +122,7 @@ module _ (seen' : ℕ → ℕ → Entry) where
     locks u r v s o x =
         put_case (λ y. y ≡ Some x.rd → Owns h v s o ⊎ NewDraft u r v s o) h.section u (on_some (locking r new) (h.section u)) v
         (λ e q. (let g = on_some_some (locking r new) (h.section u) x.rd q in mine e g.0 g.1 (ap (λ y. y.opened_at) g.2 ∙ x.at) (ap (λ y. y.draft s) g.2 ∙ x.has)))
-        (λ _ q. inl (record { rd = x.rd; b = x.b; is = q; has = x.has; at = x.at })) x.is
+        (λ _ q. inl (same_owns v x q)) x.is
       where
         new : Body
         new = (h.entries r).last.body
@@ -166,7 +168,7 @@ module _ (seen' : ℕ → ℕ → Entry) where
         after = record { entries = λ r. stored c (draft h u r) (h.entries r); section = put h.section u None }
 
         before' : (v r o : ℕ) → Owns after v r o → (v ≡ u → ⊥) × Owns h v r o
-        before' v r o x = replaced h u None (λ _. refl) v r o (record { rd = x.rd; b = x.b; is = x.is; has = x.has; at = x.at })
+        before' v r o x = replaced h u None (λ _. refl) v r o (same_owns v x x.is)
 
         stays : (v r o : ℕ) → Owns after v r o → (stored c (draft h u r) (h.entries r)).last ≡ (h.entries r).last
         stays v r o x =
@@ -176,15 +178,12 @@ module _ (seen' : ℕ → ℕ → Entry) where
     turn_alone : (k c : ℕ) (call : Call) (a : Answer) → (own_step w c call).answer ≡ a → accepted a ≡ true → Alone (change k h call a)
     turn_alone k c (Open u) a e t = fewer h _ (λ v r o x. (replaced h u _ (λ _. refl) v r o x).1) (λ v r o x. refl) alone
     turn_alone k c (Find u i r) a e t = changed h u (finding i r (answered_version a)) (λ y. refl) (λ y s b q. (b, q)) alone
-    turn_alone k c (Take u i offset count) a e t = alone
     turn_alone k c (Lock u r) a e t = lock_alone u r a e t
     turn_alone k c (Put u r offset bytes) a e t = changed h u (editing r (written offset bytes)) (λ y. refl) (edits (written offset bytes) r) alone
     turn_alone k c (Clear u r) a e t = changed h u (editing r (λ b. blank)) (λ y. refl) (edits (λ b. blank) r) alone
     turn_alone k c (Commit u) a e t = commit_alone u (answered_version a)
     turn_alone k c (Abort u) a e t = fewer h _ (λ v r o x. (replaced h u None (λ _. refl) v r o x).1) (λ v r o x. refl) alone
-    turn_alone k c Survey a e t = alone
-    turn_alone k c (Collect u) a e t = alone
-    turn_alone k c (Tick t) a e ok = alone
+    turn_alone k c _ a e t = alone
 
 module _ (home : Meaning) (highest : ℕ) (ts : List Turn) (x : World) (run : Run (first_hour home highest) ts x) where
   abbrev AloneAt : ℕ → World → Type 0
@@ -193,15 +192,18 @@ module _ (home : Meaning) (highest : ℕ) (ts : List Turn) (x : World) (run : Ru
   alone_kept : Kept home highest ts x run AloneAt
   alone_kept k t y z e inv turned alone =
       subst (Alone (seen home highest ts x run)) (sym (before_suc (home_bytes home) ts k t e))
-      (bool_case (λ b. Alone (seen home highest ts x run) (cond b (change k (past home highest ts x run k) t.call t.answer) (past home highest ts x run k))) (accepted t.answer)
+      (cond_both (accepted t.answer) (change k (past home highest ts x run k) t.call t.answer) (past home highest ts x run k) (Alone (seen home highest ts x run))
       (λ ok. turn_alone (seen home highest ts x run) y (past home highest ts x run k) inv alone k turned.stamp t.call t.answer
-      (ap (λ out. out.answer) (sym (accepted_own y turned.stamp t.door t.call t.answer turned.answers ok)) ∙ turned.answers) ok) (λ _. alone))
+      (own_answered y turned.stamp t.door t.call t.answer turned.answers ok) ok) (λ _. alone))
+
+  -- at first no section is open
+  alone_first : AloneAt 0 (first_hour home highest)
+  alone_first = record { one = λ u v r o p y z. cc y.is; based = λ u r o y. cc y.is }
 
   writes_stay : NoWriteLost (home_bytes home) ts
   writes_stay m r c b own rd is n d e other lo hi =
       let lt = get_lt ts m _ own.commit.is in
-      let t = turn_at home highest ts x run AloneAt
-      (record { one = λ u v r o p y z. none_some y.rd y.is; based = λ u r o y. none_some y.rd y.is }) alone_kept m _ own.commit.is in
+      let t = turn_at home highest ts x run AloneAt alone_first alone_kept m _ own.commit.is in
       let q : (seen home highest ts x run rd.opened_at r).version ≡ (seen home highest ts x run m r).version = ap (λ y. y.version) (t.holds.based own.commit.user r rd.opened_at
       (record { rd = rd; b = b; is = is; has = ap (λ y. draft_in y r) (sym is) ∙ own.carries; at = refl })) in
       omega (arith, q, apart home highest ts x run rd.opened_at m r n d e other (omega (arith, lo)) hi (omega (arith, lt)))
