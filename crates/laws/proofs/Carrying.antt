@@ -3,11 +3,11 @@ use Rattle.std.proofs.Common.{◌≡◌, ℕ, ◌<◌, ◌≤◌, true, cond, �
 use mathlib.Core.Path.{fun_ext}
 use Rattle.model.specs.declared.body.Body.{Body}
 use Rattle.model.specs.declared.slot.Stage.{Stage}
-use Rattle.model.specs.declared.slot.Stage.TheVariants.{Draft, Live, Retired}
+use Rattle.model.specs.declared.slot.Stage.TheVariants.{Draft}
 use Rattle.model.specs.declared.slot.Slot.{Slot}
 use Rattle.model.specs.declared.slot.Master.{Master}
 use Rattle.model.specs.declared.slot.Hold.{Hold}
-use Rattle.model.specs.declared.slot.Hold.TheVariants.{Unset, OnMaster, OnSlot}
+use Rattle.model.specs.declared.slot.Hold.TheVariants.{OnSlot}
 use Rattle.model.specs.Tools.{put, on_some}
 use Rattle.model.specs.Worlds.{Entry, Section, World, world, with_slots, put_slot}
 use Rattle.model.specs.Drafts.{is_draft}
@@ -31,10 +31,8 @@ Keeps s v slot slot' =
     → (x : Slot) × (slot' o p ≡ Some x) × (x.number ≡ sl.number) × KeptState s v x.stage
 
 pub carry_hold : (ms : ℕ → Master) (slot slot' : ℕ → ℕ → Option Slot) (s r v : ℕ) → Keeps s v slot slot' → (x : Hold) → HoldOk ms slot s r v x → HoldOk ms slot' s r v x
-carry_hold ms slot slot' s r v f Unset k = k
-carry_hold ms slot slot' s r v f (OnMaster q) k = k
-carry_hold ms slot slot' s r v f (OnSlot o p) k =
-    let g = f o p k.0 k.1 k.3 in (g.0, g.1, g.2 ∙ k.2, g.3)
+carry_hold ms slot slot' s r v f (OnSlot o p) k = let g = f o p k.0 k.1 k.3 in (g.0, g.1, g.2 ∙ k.2, g.3)
+carry_hold ms slot slot' s r v f _ k = k
 
 module _ (seen : ℕ → ℕ → Entry) where
   pub put_match : (b : Base) (ws : ℕ → Option Section) (hs : ℕ → Option Reader) (u : ℕ) (s : Option Section) (q : Option Reader) → Match seen b u s q
@@ -107,8 +105,7 @@ carry_cover ents ms W slot slot' f c r e k = ⊎_elim (λ a. inl a) (λ b. inr (
 pub carry_state : (ents : ℕ → Entries) (ms : ℕ → Master) (drafts drafts' : ℕ → ℕ → Option Body) (o : ℕ) (sl : Slot) (st : Stage)
     → (is_draft st ≡ true → drafts o sl.number ≡ Some sl.body → drafts' o sl.number ≡ Some sl.body) → StateAt ents ms drafts o sl st → StateAt ents ms drafts' o sl st
 carry_state ents ms drafts drafts' o sl Draft f k = f refl k
-carry_state ents ms drafts drafts' o sl (Live v) f k = k
-carry_state ents ms drafts drafts' o sl (Retired v t) f k = k
+carry_state ents ms drafts drafts' o sl _ f k = k
 
 pub put_slot_case : (P : Option Slot → Type 0) (f : ℕ → ℕ → Option Slot) (u p : ℕ) (s : Option Slot) (o q : ℕ)
     → (o ≡ u → q ≡ p → P s) → (((o ≡ u) × (q ≡ p) → ⊥) → P (f o q)) → P (put_slot f u p s o q)
@@ -144,8 +141,7 @@ redraft_match seen {w} {h} inv slot' u r t f o =
     keep = keep_slots seen inv slot' (λ s v _. f s v)
 
     again : (a : Option Section) (q : Option Reader) → Match seen (base (with_slots w slot') h) o a q → Match seen (base (with_slots w slot') h) o a (on_some (redraft r t) q)
-    again None None k = k
-    again None (Some rd) k = absurd k
-    again (Some s) None k = absurd k
+    again a None k = k
+    again None (Some rd) k = k
     again (Some s) (Some rd) ok =
         record { user = ok.user; opening_low = ok.opening_low; watermark_low = ok.watermark_low; seen_entry = ok.seen_entry; seen_low = ok.seen_low; seen_last = ok.seen_last; holds = ok.holds }

@@ -6,7 +6,7 @@ use mathlib.Core.Path.{subst₂}
 use Rattle.interfaces.specs.Homes.{Meaning}
 use Rattle.model.specs.declared.body.Body.{Body}
 use Rattle.model.specs.declared.slot.Stage.{Stage}
-use Rattle.model.specs.declared.slot.Stage.TheVariants.{Draft, Live, Retired}
+use Rattle.model.specs.declared.slot.Stage.TheVariants.{Live, Retired}
 use Rattle.model.specs.declared.slot.Slot.{Slot}
 use Rattle.model.specs.declared.slot.Hold.{Hold}
 use Rattle.model.specs.declared.slot.Hold.TheVariants.{Unset, OnMaster, OnSlot}
@@ -26,9 +26,8 @@ use Rattle.interfaces.specs.Homes as home
 -- a master that is no lower
 raise_master : (ents : ℕ → Entries) (ms ms' : ℕ → Master) (drafts : ℕ → ℕ → Option Body) (o : ℕ) (sl : Slot) (st : Stage) → (ms sl.number).version ≤ (ms' sl.number).version
     → StateAt ents ms drafts o sl st → StateAt ents ms' drafts o sl st
-raise_master ents ms ms' drafts o sl Draft le k = k
-raise_master ents ms ms' drafts o sl (Live v) le k = k
 raise_master ents ms ms' drafts o sl (Retired v t) le k = (k.0, ⊎_elim (λ a. inl (omega (arith, a, le))) (λ n. inr n) k.1)
+raise_master ents ms ms' drafts o sl _ le k = k
 
 module _ (seen : ℕ → ℕ → Entry) (w : World) (h : History) (inv : Inv seen w h) (u q : ℕ) (sl : Slot) (there : w.slot u q ≡ Some sl) where
   -- the slot at that place is this one

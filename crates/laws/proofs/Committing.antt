@@ -1,6 +1,7 @@
 -- The turn of a commit.
 use Rattle.std.proofs.Common.{◌≡◌, ℕ, ◌<◌, ◌≤◌, cond, eqb, ◌⊎◌, Some, None, Option, sym, refl, ap, ◌∙◌, subst, inl, inr, ⊎_elim, arith}
 use mathlib.Core.Path.{fun_ext}
+use Rattle.std.proofs.lemmas.Bool.{cond_both}
 use Rattle.model.specs.declared.body.Body.{Body}
 use Rattle.model.specs.declared.slot.Stage.{Stage}
 use Rattle.model.specs.declared.slot.Stage.TheVariants.{Draft, Live, Retired}
@@ -11,7 +12,7 @@ use Rattle.model.specs.Calls.{Commit}
 use Rattle.model.specs.Drafts.{has_draft, settled, settled_stage}
 use Rattle.model.specs.Steps.{settle, commit_step}
 use Rattle.model.specs.History.{Entries, History, draft_in, draft, with_reader, stored}
-use Rattle.laws.proofs.Basics.{eq_case, bool_case, on_some_some, HasVersion}
+use Rattle.laws.proofs.Basics.{eq_case, on_some_some, HasVersion}
 use Rattle.laws.proofs.Invariant.{entry, Ent, Ledger, Newer, StateOk, StateAt, SlotOk, SlotsOk, draft_slot, DraftsOk, SlotWith, CoverOk, KeptState, Base, base, Inv, Good, carry_sections}
 use Rattle.laws.proofs.Reading.{no_drafts_here, has_draft_is}
 use Rattle.laws.proofs.Carrying.{same_drafts, carry_hold, put_match, carry_section, new_sections, carry_with}
@@ -98,15 +99,11 @@ module _ (seen : ℕ → ℕ → Entry) (w : World) (h : History) (inv : Inv see
             ∙ eq_case (λ t. Some (record { number = a; body = b; stage = cond t (Live c) Draft }) ≡ Some (draft_slot a b)) o u (λ y. absurd (n y)) (λ _. refl),
       )))
 
-  version' : (o r v : ℕ) (st : Stage) → HasVersion st v → HasVersion (stage' o r st) v
-  version' o r v Draft x = absurd x
-  version' o r v (Live y) x = bool_case (λ t. HasVersion (cond t (Retired y c) (Live y)) v) (has_draft (w.slot u) (w.oldest u) r) (λ _. x) (λ _. x)
-  version' o r v (Retired y t) x = x
-
-  kept' : (o r s v : ℕ) → s < c → (st : Stage) → KeptState s v st → KeptState s v (stage' o r st)
-  kept' o r s v le Draft x = absurd x
-  kept' o r s v le (Live y) x = bool_case (λ t. KeptState s v (cond t (Retired y c) (Live y))) (has_draft (w.slot u) (w.oldest u) r) (λ _. (x, le)) (λ _. x)
-  kept' o r s v le (Retired y t) x = x
+  -- what no draft has, and a live slot that retires keeps, a slot keeps
+  kept' : (o r : ℕ) (P : Stage → Type 0) → (P Draft → ⊥) → ((v : ℕ) → P (Live v) → P (Retired v c)) → (st : Stage) → P st → P (stage' o r st)
+  kept' o r P no' retire Draft x = absurd (no' x)
+  kept' o r P no' retire (Live v) x = cond_both (has_draft (w.slot u) (w.oldest u) r) (Retired v c) (Live v) P (λ _. retire v x) (λ _. x)
+  kept' o r P no' retire (Retired v t) x = x
 
   cover' : CoverOk ents' w.master w.watermark slot'
   cover' r e z = ⊎_elim old fresh' (ent_new c (draft h u r) (h.entries r) e z)
@@ -114,7 +111,7 @@ module _ (seen : ℕ → ℕ → Entry) (w : World) (h : History) (inv : Inv see
       old : Ent (h.entries r) e → ((w.master r).version ≡ e.version) ⊎ (SlotWith slot' r e.version ⊎ Newer (ents' r) e.version w.watermark)
       old y =
           ⊎_elim (λ m. inl m) (λ t. inr (⊎_elim
-          (λ s. inl (carry_with w.slot slot' r e.version (λ o p v sl q x. (became o sl, ap (on_some (became o)) q, refl, version' o sl.number v sl.stage x)) s))
+          (λ s. inl (carry_with w.slot slot' r e.version (λ o p v sl q x. (became o sl, ap (on_some (became o)) q, refl, kept' o sl.number (λ st. HasVersion st v) (λ y. y) (λ _ y. y) sl.stage x)) s))
           (λ n. inr (newer_old c (draft h u r) (h.entries r) e.version w.watermark n)) t)) (inv.cover r e y)
 
       fresh' : (b : Body) × (draft h u r ≡ Some b) × (e ≡ entry c b) → ((w.master r).version ≡ e.version) ⊎ (SlotWith slot' r e.version ⊎ Newer (ents' r) e.version w.watermark)
@@ -144,7 +141,7 @@ module _ (seen : ℕ → ℕ → Entry) (w : World) (h : History) (inv : Inv see
             (λ r e z. ent_old c (draft h u r) (h.entries r) e z)
             (λ r e z. ⊎_elim (λ a. inl a) (λ y. inr (subst (λ x. s.opening < x.version) (sym y.2) (omega (arith, ok.opening_low, lt)))) (ent_new c (draft h u r) (h.entries r) e z))
             (λ r v x _ z. carry_hold w.master w.slot slot' s.opening r v
-            (λ o p sl q y. (became o sl, ap (on_some (became o)) q, refl, kept' o sl.number s.opening v (omega (arith, ok.opening_low, lt)) sl.stage y)) x z)));
+            (λ o p sl q y. (became o sl, ap (on_some (became o)) q, refl, kept' o sl.number (KeptState s.opening v) (λ z. z) (λ _ z. (z, omega (arith, ok.opening_low, lt))) sl.stage y)) x z)));
       }
     where
       after : Base

@@ -160,8 +160,7 @@ module _ (seen : ℕ → ℕ → Entry) (w : World) (h : History) (inv : Inv see
       where
         no_draft_version : (st : Stage) (v : ℕ) → HasVersion st v → is_draft st ≡ false
         no_draft_version Draft v x = absurd x
-        no_draft_version (Live y) v x = refl
-        no_draft_version (Retired y t) v x = refl
+        no_draft_version _ v x = refl
 
     abort_inv : Inv seen (with_section (with_slots w left) u None) (with_reader h u None)
     abort_inv =

@@ -13,7 +13,7 @@ use Rattle.model.specs.Worlds.{Entry, Section, World, master_entry}
 use Rattle.model.specs.Calls.{Call, turn}
 use Rattle.model.specs.Steps.{Outcome, Lawful}
 use Rattle.model.specs.History.{version_of, Reader, Entries, History, draft, fed}
-use Rattle.laws.proofs.Basics.{In, HasVersion}
+use Rattle.laws.proofs.Basics.{option_case, In, HasVersion}
 
 abbrev pub entry : ℕ → Body → Entry
 entry v b = record { version = v; body = b }
@@ -82,9 +82,8 @@ KeptState s v (Live x) = x ≡ v
 KeptState s v (Retired x t) = (x ≡ v) × (s < t)
 
 pub kept_version : (s v : ℕ) (st : Stage) → KeptState s v st → HasVersion st v
-kept_version s v Draft k = k
-kept_version s v (Live x) k = k
 kept_version s v (Retired x t) k = k.0
+kept_version s v _ k = k
 
 abbrev pub HoldOk : (ℕ → Master) → (ℕ → ℕ → Option Slot) → ℕ → ℕ → ℕ → Hold → Type 0
 HoldOk ms slot s r v Unset = ⊥
@@ -141,18 +140,14 @@ module _ (seen : ℕ → ℕ → Entry) where
 
   module _ {w : World} {h : History} (inv : Inv w h) where
     pub opened_here : (u : ℕ) (s : Section) → w.section u ≡ Some s → Opened w h u s
-    opened_here u s e = go (h.section u) refl (subst (λ o. Match (base w h) u o (h.section u)) e (inv.sections u))
-      where
-        go : (q : Option Reader) → h.section u ≡ q → Match (base w h) u (Some s) q → Opened w h u s
-        go None i m = absurd m
-        go (Some rd) i m = record { rd = rd; is = i; ok = m }
+    opened_here u s e =
+        option_case (λ q. Match (base w h) u (Some s) q → Opened w h u s) (h.section u) (λ _ m. absurd m) (λ rd i m. record { rd = rd; is = i; ok = m })
+        (subst (λ o. Match (base w h) u o (h.section u)) e (inv.sections u))
 
     pub closed_here : (u : ℕ) → w.section u ≡ None → h.section u ≡ None
-    closed_here u e = go (h.section u) (subst (λ o. Match (base w h) u o (h.section u)) e (inv.sections u))
-      where
-        go : (q : Option Reader) → Match (base w h) u None q → q ≡ None
-        go None m = refl
-        go (Some rd) m = absurd m
+    closed_here u e =
+        option_case (λ q. Match (base w h) u None q → q ≡ None) (h.section u) (λ _ _. refl) (λ _ _ m. absurd m)
+        (subst (λ o. Match (base w h) u o (h.section u)) e (inv.sections u))
 
     -- of the reader that the history has open
     pub section_here : (u : ℕ) (s : Section) (rd : Reader) → w.section u ≡ Some s → h.section u ≡ Some rd → SectionOk (base w h) u s rd

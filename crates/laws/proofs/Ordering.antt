@@ -1,6 +1,6 @@
 -- Logs in order: what each call makes of a log is again a ring.
 use Rattle.std.proofs.Common.{◌≡◌, ℕ, suc, ◌-◌, ◌<◌, ◌≤◌, Bool, true, false, cond, not, ◌&&◌, ltb, leb, List, Some, None, Option, sym, refl, ap, ◌∙◌, subst, ⊎_elim, arith}
-use Rattle.std.proofs.lemmas.Bool.{cases_lt, ltb-true, ltb-false, lt-ltb, le-ltb, le-leb, lt-leb, and_from, and_left, and_right, not-true, not-false, not_from_true, not_from_false}
+use Rattle.std.proofs.lemmas.Bool.{cases_lt, ltb-true, ltb-false, lt-ltb, le-ltb, le-leb, lt-leb, and_from, and_left, and_right, not-true, not-false, not_from_true, not_from_false, cond_both}
 use Rattle.interfaces.specs.Homes.{Meaning}
 use Rattle.model.specs.declared.door.Door.{Door}
 use Rattle.model.specs.declared.body.Body.{Body}
@@ -119,7 +119,7 @@ module _ (slots : ℕ → Option Slot) (first : ℕ) (r : Ring slots first) wher
       left (Some sl) = bool_case (λ b. is_some (cond b None (Some sl)) ≡ not b) (is_draft sl.stage) (λ _. refl) (λ _. refl)
 
       no_draft : (x : Option Slot) → any_draft (cond (any_draft x) None x) ≡ false
-      no_draft x = bool_case (λ b. any_draft x ≡ b → any_draft (cond b None x) ≡ false) (any_draft x) (λ _ _. refl) (λ e _. e) refl
+      no_draft x = cond_both (any_draft x) None x (λ y. any_draft y ≡ false) (λ _. refl) (λ e. e)
 
   -- The oldest slot leaves.
   freed_ring : Ring (put slots (place_of first 0) None) (place_of first 1)

@@ -10,7 +10,7 @@ use Rattle.model.specs.Worlds.{Entry, Section, World}
 use Rattle.model.specs.Versions.{place_of, Seen, visible, newest}
 use Rattle.model.specs.Drafts.{is_draft, any_draft, draft_of, draft_age, has_draft, has_drafts}
 use Rattle.model.specs.History.{Reader, History, draft}
-use Rattle.laws.proofs.Basics.{is_some_false, least_some, least_none, HasVersion, age_of}
+use Rattle.laws.proofs.Basics.{is_some_false, option_case, least_some, least_none, HasVersion, age_of}
 use Rattle.laws.proofs.Invariant.{entry, Ent, Ledger, StateAt, draft_slot, KeptState, HoldOk, base, SectionOk, Inv}
 use Rattle.laws.proofs.Seeing.{InSlot, Highest, look}
 
@@ -139,28 +139,18 @@ module _ (seen : ℕ → ℕ → Entry) (w : World) (h : History) (inv : Inv see
       let a = age_of (w.oldest u) p (inv.slots u p sl e).1 in
       subst (λ x. test x ≡ false) e (subst (λ q. test (w.slot u q) ≡ false) a.2 (least_none 8 (λ i. test (w.slot u (place_of (w.oldest u) i))) n a.0 a.1))
 
+  -- where no slot of u's log passes a test that drafts of r pass, u has no draft of r
+  none_here : (u r : ℕ) (test : Option Slot → Bool) → ((b : Body) → test (Some (draft_slot r b)) ≡ true) → least 8 (λ i. test (w.slot u (place_of (w.oldest u) i))) ≡ None → draft h u r ≡ None
+  none_here u r test passes n = option_case (λ d. d ≡ None) (draft h u r) (λ _. refl) (λ b q. (let k = inv.drafts u r b q in cc (passes b, at_age u k.0 (draft_slot r b) k.1 test n)))
+
   pub no_draft_here : (u r : ℕ) → draft_age (w.slot u) (w.oldest u) r ≡ None → draft h u r ≡ None
-  no_draft_here u r e = go (draft h u r) refl
-    where
-      go : (d : Option Body) → draft h u r ≡ d → d ≡ None
-      go None q = refl
-      go (Some b) q =
-          let k = inv.drafts u r b q in
-          cc (eq-eqb r r refl, at_age u k.0 (draft_slot r b) k.1 (draft_of r) e)
+  no_draft_here u r = none_here u r (draft_of r) (λ b. eq-eqb r r refl)
 
   pub no_drafts_here : (u : ℕ) → has_drafts (w.slot u) (w.oldest u) ≡ false → (r : ℕ) → draft h u r ≡ None
-  no_drafts_here u e r = go (draft h u r) refl
-    where
-      go : (d : Option Body) → draft h u r ≡ d → d ≡ None
-      go None q = refl
-      go (Some b) q =
-          let k = inv.drafts u r b q in
-          cc (at_age u k.0 (draft_slot r b) k.1 any_draft (is_some_false (least 8 (λ i. any_draft (w.slot u (place_of (w.oldest u) i)))) e))
+  no_drafts_here u e r = none_here u r any_draft (λ b. refl) (is_some_false (least 8 (λ i. any_draft (w.slot u (place_of (w.oldest u) i)))) e)
 
   -- the store says that u has a draft of r exactly when the history does
   pub has_draft_is : (u r : ℕ) → has_draft (w.slot u) (w.oldest u) r ≡ is_some (draft h u r)
-  has_draft_is u r = go (draft_age (w.slot u) (w.oldest u) r) refl
-    where
-      go : (o : Option ℕ) → draft_age (w.slot u) (w.oldest u) r ≡ o → is_some o ≡ is_some (draft h u r)
-      go None e = ap is_some (sym (no_draft_here u r e))
-      go (Some i) e = ap is_some (sym (draft_here u r i e).1)
+  has_draft_is u r =
+      option_case (λ o. is_some o ≡ is_some (draft h u r)) (draft_age (w.slot u) (w.oldest u) r)
+      (λ e. ap is_some (sym (no_draft_here u r e))) (λ i e. ap is_some (sym (draft_here u r i e).1))

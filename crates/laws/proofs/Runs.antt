@@ -1,5 +1,5 @@
 -- The invariant at each position of a run, and from it the laws of equal finds and of held bytes.
-use Rattle.std.proofs.Common.{◌≡◌, ℕ, zero, suc, ◌+◌, ◌<◌, ◌≤◌, true, ◌⊎◌, List, [], ◌∷◌, ◌++◌, length, take, drop, Some, None, Option, sym, refl, ap, ◌∙◌, subst, inl, inr, ⊎_elim, add-zero, add-suc, suc-add, zero-add, arith}
+use Rattle.std.proofs.Common.{◌≡◌, ℕ, zero, suc, ◌+◌, ◌<◌, ◌≤◌, true, ◌⊎◌, List, [], ◌∷◌, ◌++◌, length, take, drop, Some, None, sym, refl, ap, ◌∙◌, subst, inl, inr, ⊎_elim, add-zero, add-suc, suc-add, zero-add, arith}
 use Rattle.std.proofs.lemmas.Bool.{cases_eq, cases_lt, cond_both}
 use Rattle.std.proofs.lemmas.Option.{same_Some}
 use Rattle.interfaces.specs.Homes.{Meaning}
@@ -15,7 +15,7 @@ use Rattle.model.specs.History.{Reader, History, answered_version, draft, findin
 use Rattle.laws.specs.Runs.{Turned, Reached, begun, turned}
 use Rattle.laws.specs.Laws.{FindAt, CommitAt, StoreAt, Between, EqualFinds, StoredBy, HeldBytes}
 use Rattle.laws.specs.Theorems.{OfEveryRun}
-use Rattle.laws.proofs.Basics.{put_case, on_some_some}
+use Rattle.laws.proofs.Basics.{option_case, put_case, on_some_some}
 use Rattle.laws.proofs.Invariant.{entry, Inv}
 use Rattle.laws.proofs.Answers.{outset_inv, step_good, find_answer, take_answer, commit_answer, accepted_own, own_answered}
 use Rattle.laws.proofs.Rising.{step_up, commit_stamped}
@@ -229,13 +229,10 @@ module _ (home : Meaning) (highest : ℕ) (ts : List Turn) (x : World) (run : Ru
     where
       by : (d : Door) (call : Call) (a : Answer) → nth ts k ≡ Some (turn d call a) → accepted a ≡ true
           → (((change k (past k) call a).entries r).last ≡ seen k r) ⊎ ((c : ℕ) × (b : Body) × StoreAt (home_bytes home) ts k r c b)
-      by d (Commit u) a e t = go (draft (past k) u r) refl
-        where
-          go : (d : Option Body) → draft (past k) u r ≡ d → ((stored (answered_version a) d ((past k).entries r)).last ≡ seen k r) ⊎ ((c : ℕ) × (b : Body) × StoreAt (home_bytes home) ts k r c b)
-          go None q = inl refl
-          go (Some b) q =
-              let z = carrying k u r d a b e t q in
-              inr (z.0, b, record { commit = record { door = d; user = u; is = e ∙ ap (λ v. Some (turn d (Commit u) v)) z.1 }; carries = q })
+      by d (Commit u) a e t =
+          option_case (λ o. ((stored (answered_version a) o ((past k).entries r)).last ≡ seen k r) ⊎ ((c : ℕ) × (b : Body) × StoreAt (home_bytes home) ts k r c b)) (draft (past k) u r) (λ _. inl refl)
+          (λ b q. (let z = carrying k u r d a b e t q in
+          inr (z.0, b, record { commit = record { door = d; user = u; is = e ∙ ap (λ v. Some (turn d (Commit u) v)) z.1 }; carries = q })))
       by d _ a e t = inl refl
 
   -- versions only grow

@@ -1,5 +1,5 @@
 -- The turns that change sections, the watermark and the tick only: open, find, take, survey, tick.
-use Rattle.std.proofs.Common.{◌≡◌, ℕ, ◌<◌, ◌≤◌, cond, map, Some, None, Option, sym, refl, ap, ◌∙◌, subst, inl, inr, ⊎_elim, zero-add, arith}
+use Rattle.std.proofs.Common.{◌≡◌, ℕ, ◌<◌, ◌≤◌, cond, List, map, Some, None, Option, sym, refl, ap, ◌∙◌, subst, inl, inr, ⊎_elim, zero-add, arith}
 use Rattle.std.specs.List.{range_with_len}
 use Rattle.std.proofs.lemmas.Bool.{cases_lt}
 use Rattle.std.proofs.lemmas.Option.{same_Some}
@@ -101,36 +101,36 @@ module _ (seen : ℕ → ℕ → Entry) (w : World) (h : History) (inv : Inv see
 
 -- The lowest opening stamp.
 
+abbrev opened_row : (ℕ → Option Section) → List (Option OpenSection)
+opened_row sections = map (λ u. opened_as u (sections u)) (range_with_len 0 8)
+
 -- the open section that is picked
 first_is : (sections : ℕ → Option Section) (m : OpenSection) → first_opened sections ≡ Some m → (u : ℕ) × (s : Section) × (sections u ≡ Some s) × (s.opening ≡ m.stamp)
 unfolding first_opened
 first_is sections m e =
-    let i = open_section_member (map f (range_with_len 0 8)) m e in
+    let i = open_section_member (opened_row sections) m e in
     let lt : i.0 < 8 = omega (arith, i.1, length-map-range_with_len f 0 8) in
-    of_user i.0 (sections i.0) refl (sym (get_or-map-range_with_len f 0 8 i.0 i.0 None lt (zero-add i.0)) ∙ i.2)
+    option_case (λ o. opened_as i.0 o ≡ Some m → (u : ℕ) × (s : Section) × (sections u ≡ Some s) × (s.opening ≡ m.stamp)) (sections i.0) (λ _ k. cc)
+    (λ s q k. (i.0, s, q, ap (λ (y : OpenSection). y.stamp) (same_Some (record { stamp = s.opening; user = i.0 }) m k)))
+    (sym (get_or-map-range_with_len f 0 8 i.0 i.0 None lt (zero-add i.0)) ∙ i.2)
   where
     f : ℕ → Option OpenSection
     f u = opened_as u (sections u)
 
-    of_user : (u : ℕ) (o : Option Section) → sections u ≡ o → opened_as u o ≡ Some m → (u : ℕ) × (s : Section) × (sections u ≡ Some s) × (s.opening ≡ m.stamp)
-    of_user u None q k = cc
-    of_user u (Some s) q k = (u, s, q, ap (λ (y : OpenSection). y.stamp) (same_Some (record { stamp = s.opening; user = u }) m k))
-
 -- an open section stands in the row
-in_row : (sections : ℕ → Option Section) (u : ℕ) (s : Section) → u < 8 → sections u ≡ Some s
-    → InRow (map (λ u. opened_as u (sections u)) (range_with_len 0 8)) (record { stamp = s.opening; user = u })
+in_row : (sections : ℕ → Option Section) (u : ℕ) (s : Section) → u < 8 → sections u ≡ Some s → InRow (opened_row sections) (record { stamp = s.opening; user = u })
 in_row sections u s lt e =
     (u, omega (arith, lt, length-map-range_with_len (λ u. opened_as u (sections u)) 0 8), get_or-map-range_with_len (λ u. opened_as u (sections u)) 0 8 u u None lt (zero-add u) ∙ ap (opened_as u) e)
 
 first_below : (sections : ℕ → Option Section) (m : OpenSection) → first_opened sections ≡ Some m → (u : ℕ) (s : Section) → u < 8 → sections u ≡ Some s → m.stamp ≤ s.opening
 unfolding first_opened
 first_below sections m e u s lt q =
-    ⊎_elim (λ l. absurd (open_section_first (map (λ u. opened_as u (sections u)) (range_with_len 0 8)) m e (record { stamp = s.opening; user = u }) (in_row sections u s lt q) (inl l)))
+    ⊎_elim (λ l. absurd (open_section_first (opened_row sections) m e (record { stamp = s.opening; user = u }) (in_row sections u s lt q) (inl l)))
     (λ (ge : m.stamp ≤ s.opening). ge) (cases_lt s.opening m.stamp)
 
 none_first : (sections : ℕ → Option Section) → first_opened sections ≡ None → (u : ℕ) (s : Section) → u < 8 → sections u ≡ Some s → ⊥
 unfolding first_opened
-none_first sections e u s lt q = open_section_none (map (λ u. opened_as u (sections u)) (range_with_len 0 8)) e (record { stamp = s.opening; user = u }) (in_row sections u s lt q)
+none_first sections e u s lt q = open_section_none (opened_row sections) e (record { stamp = s.opening; user = u }) (in_row sections u s lt q)
 
 -- what the highest and all openings have, the lowest has
 lowest_is : (P : ℕ → Type 0) (w : World) → P w.highest → ((u : ℕ) (s : Section) → w.section u ≡ Some s → P s.opening) → P (lowest w)

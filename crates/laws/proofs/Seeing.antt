@@ -13,7 +13,7 @@ use Rattle.model.specs.declared.slot.Slot.{Slot}
 use Rattle.model.specs.declared.slot.Hold.TheVariants.{OnMaster, OnSlot}
 use Rattle.model.specs.Worlds.{World, master_entry}
 use Rattle.model.specs.Versions.{place_of, within, if_within, stage_shows, slot_shows, cell, row, foremost, Seen, body_in, seen_at, seen_as}
-use Rattle.laws.proofs.Basics.{HasVersion, age_of}
+use Rattle.laws.proofs.Basics.{option_case, HasVersion, age_of}
 use Rattle.laws.proofs.Invariant.{SlotWith}
 use Rattle.order.specs.Order.{In as InRow}
 use Rattle.order.specs.declared.candidate.Place.TheVariants as place
@@ -54,17 +54,6 @@ low_within : (limit : Option ℕ) (v : ℕ) → Within limit v → within limit 
 low_within None v h = refl
 low_within (Some s) v h = le-leb v s h
 
-record ShowsVersion (limit : Option ℕ) (p : Place) (v : ℕ) (x : Candidate) : Type 0 where
-  version : v ≡ x.version
-  low : Within limit x.version
-  place : x.place ≡ p
-
-if_shows : (limit : Option ℕ) (v : ℕ) (p : Place) (x : Candidate) → if_within limit v p ≡ Some x → ShowsVersion limit p v x
-if_shows limit v p x e =
-    let c = cond_some (within limit v) (record { version = v; place = p }) x e in
-    let same : v ≡ x.version = ap (λ (y : Candidate). y.version) c.1 in
-    record { version = same; low = subst (Within limit) same (within_low limit v c.0); place = sym (ap (λ (y : Candidate). y.place) c.1) }
-
 record ShowsSlot (r : ℕ) (limit : Option ℕ) (p : Place) (o : Option Slot) (x : Candidate) : Type 0 where
   sl : Slot
   there : o ≡ Some sl
@@ -79,13 +68,16 @@ shows r limit p (Some sl) x e₀ =
     cond_both (eqb sl.number r) (stage_shows limit p sl.stage) None (λ o. o ≡ Some x → ShowsSlot r limit p (Some sl) x)
     (λ t e. at_stage sl.stage refl (eqb-true sl.number r t) e) (λ _ e. cc) e₀
   where
-    by : (v : ℕ) → HasVersion sl.stage v → sl.number ≡ r → ShowsVersion limit p v x → ShowsSlot r limit p (Some sl) x
-    by v hv f u = record { sl = sl; there = refl; number = f; version = subst (HasVersion sl.stage) u.version hv; low = u.low; place = u.place }
+    at_version : (v : ℕ) → HasVersion sl.stage v → sl.number ≡ r → if_within limit v p ≡ Some x → ShowsSlot r limit p (Some sl) x
+    at_version v has f e =
+        let c = cond_some (within limit v) (record { version = v; place = p }) x e in
+        let same : v ≡ x.version = ap (λ (y : Candidate). y.version) c.1 in
+        record { sl = sl; there = refl; number = f; version = subst (HasVersion sl.stage) same has; low = subst (Within limit) same (within_low limit v c.0); place = sym (ap (λ (y : Candidate). y.place) c.1) }
 
     at_stage : (st : Stage) → sl.stage ≡ st → sl.number ≡ r → stage_shows limit p st ≡ Some x → ShowsSlot r limit p (Some sl) x
     at_stage Draft q f e = cc
-    at_stage (Live v) q f e = by v (subst (λ y. HasVersion y v) (sym q) refl) f (if_shows limit v p x e)
-    at_stage (Retired v t) q f e = by v (subst (λ y. HasVersion y v) (sym q) refl) f (if_shows limit v p x e)
+    at_stage (Live v) q f e = at_version v (subst (λ y. HasVersion y v) (sym q) refl) f e
+    at_stage (Retired v t) q f e = at_version v (subst (λ y. HasVersion y v) (sym q) refl) f e
 
 shown_is : (r : ℕ) (limit : Option ℕ) (p : Place) (sl : Slot) (v : ℕ) → sl.number ≡ r → HasVersion sl.stage v → Within limit v
     → slot_shows r limit p (Some sl) ≡ Some (record { version = v; place = p })
@@ -191,8 +183,4 @@ module _ (w : World) (r : ℕ) (limit : Option ℕ) (master_low : Within limit (
   never_none e = candidate_none line e mine (stands 64 mine (omega arith) cell_master)
 
   pub look : Highest w r limit (seen_as w r (foremost w.slot w.oldest w.master r limit))
-  look = go (foremost w.slot w.oldest w.master r limit) refl
-    where
-      go : (b : Option Candidate) → foremost w.slot w.oldest w.master r limit ≡ b → Highest w r limit (seen_as w r b)
-      go None e = absurd (never_none e)
-      go (Some x) e = found x e
+  look = option_case (λ o. Highest w r limit (seen_as w r o)) (foremost w.slot w.oldest w.master r limit) (λ e. absurd (never_none e)) (λ x e. found x e)

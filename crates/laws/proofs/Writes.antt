@@ -28,11 +28,9 @@ pub record Owns (h : History) (u r o : ℕ) : Type 0 where
   pub at : rd.opened_at ≡ o
 
 owned : (h : History) (u r : ℕ) (b : Body) → draft h u r ≡ Some b → (o : ℕ) × Owns h u r o
-owned h u r b e = go (h.section u) refl e
-  where
-    go : (q : Option Reader) → h.section u ≡ q → draft_in q r ≡ Some b → (o : ℕ) × Owns h u r o
-    go None i k = cc
-    go (Some rd) i k = (rd.opened_at, record { rd = rd; b = b; is = i; has = k; at = refl })
+owned h u r b e =
+    option_case (λ q. draft_in q r ≡ Some b → (o : ℕ) × Owns h u r o) (h.section u) (λ _ k. cc)
+    (λ rd i k. (rd.opened_at, record { rd = rd; b = b; is = i; has = k; at = refl })) e
 
 -- one user at most has a draft of a record, and the record's last entry is still what its section has seen
 module _ (seen' : ℕ → ℕ → Entry) where
