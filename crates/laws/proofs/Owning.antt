@@ -2,7 +2,6 @@
 use Rattle.std.proofs.Common.{◌≡◌, ℕ, false, cond, ◌&&◌, eqb, List, Some, None, Option, sym, refl, ap, ◌∙◌, subst}
 use Rattle.std.proofs.lemmas.Bool.{eqb-true, and_parts, cond_both}
 use Rattle.std.proofs.lemmas.Option.{same_Some}
-use Rattle.interfaces.specs.Homes.{Meaning}
 use Rattle.model.specs.declared.body.Body.{Body}
 use Rattle.model.specs.declared.slot.Stage.TheVariants.{Draft, Live}
 use Rattle.model.specs.declared.slot.Slot.{Slot}
@@ -12,7 +11,7 @@ use Rattle.model.specs.declared.door.Door.{Door}
 use Rattle.model.specs.declared.door.Door.TheVariants.{Host}
 use Rattle.model.specs.Tools.{put, on_some}
 use Rattle.model.specs.Worlds.{Entry, Section, World, home_bytes, part, written, blank, first_hour, with_slots, put_slot}
-use Rattle.model.specs.Calls.{Call, Open, Find, Take, Lock, Put, Clear, Commit, Abort, Collect, taken, Turn, turn}
+use Rattle.model.specs.Calls.{Call, Open, Find, Take, Lock, Put, Clear, Commit, Abort, Collect, taken, turn}
 use Rattle.model.specs.Versions.{place_of, visible, newest}
 use Rattle.model.specs.Drafts.{is_draft, any_draft, edited, undrafted, settled}
 use Rattle.model.specs.Steps.{fresh, Outcome, holding, held, take_step, settle, survey_step, oldest_place, own_step, step}
@@ -25,7 +24,7 @@ use Rattle.laws.proofs.Invariant.{draft_slot, Inv}
 use Rattle.laws.proofs.Reading.{draft_here, no_draft_here}
 use Rattle.laws.proofs.Carrying.{put_slot_case}
 use Rattle.laws.proofs.Answers.{own_answered}
-use Rattle.laws.proofs.Runs.{Run, run_of, before_suc, past, seen, Kept, turn_at}
+use Rattle.laws.proofs.Runs.{WholeRun, whole_run, behind, past, seen, Kept, turn_at}
 
 -- of u's log, with the holds of its section in the store and in the history
 abbrev pub Own : (ℕ → Option Slot) → ℕ → (ℕ → Hold) → (ℕ → Held) → Type 0
@@ -165,26 +164,22 @@ module _ (seen : ℕ → ℕ → Entry) (w : World) (h : History) (inv : Inv see
       P : Outcome → Type 0
       P out = out.answer ≡ taken bs → (b : Body) × (rd.draft r ≡ Some b) × (bs ≡ part offset count b.bytes)
 
-module _ (home : Meaning) (highest : ℕ) (ts : List Turn) (x : World) (run : Run (first_hour home highest) ts x) where
+module _ (run : WholeRun) where
   abbrev OwnAt : ℕ → World → Type 0
-  OwnAt k y = OwnHolds y (past home highest ts x run k)
+  OwnAt k y = OwnHolds y (past run k)
 
-  own_kept : Kept home highest ts x run OwnAt
-  own_kept k t y z e inv turned own =
-      subst (OwnHolds z) (sym (before_suc (home_bytes home) ts k t e))
-      (subst (λ v. OwnHolds v (fed k (past home highest ts x run k) t)) turned.leaves
-      (subst (λ a. OwnHolds (step y turned.stamp t.door t.call).after (fed k (past home highest ts x run k) (turn t.door t.call a))) turned.answers
-      (step_owns (seen home highest ts x run) y (past home highest ts x run k) inv own k turned.stamp t.door t.call)))
+  own_kept : Kept run OwnAt
+  own_kept k t y z e inv turned own = behind run OwnHolds k e turned (step_owns (seen run) y (past run k) inv own k turned.stamp t.door t.call)
 
   -- at first no section is open
-  own_first : OwnAt 0 (first_hour home highest)
+  own_first : OwnAt 0 (first_hour run.home run.highest)
   own_first u s rd e = cc
 
-  takes_own : DraftsOwn (home_bytes home) ts
+  takes_own : DraftsOwn (home_bytes run.home) run.turns
   takes_own k hold offset count r rd bs at holds =
-      let t = turn_at home highest ts x run OwnAt own_first own_kept k _ at.is in
-      draft_answer (seen home highest ts x run) t.world (past home highest ts x run k) t.inv t.holds k at.user hold offset count bs rd r at.open_section holds
+      let t = turn_at run OwnAt own_first own_kept k _ at.is in
+      draft_answer (seen run) t.world (past run k) t.inv t.holds k at.user hold offset count bs rd r at.open_section holds
       (own_answered t.world t.turned.stamp at.door (Take at.user hold offset count) (taken bs) t.turned.answers refl)
 
 pub drafts_own : OfEveryRun DraftsOwn
-drafts_own home highest ts x reached = takes_own home highest ts x (run_of reached)
+drafts_own home highest ts x reached = takes_own (whole_run reached)

@@ -2,6 +2,7 @@
 use Rattle.std.proofs.Common.{◌≡◌, ℕ, zero, suc, ◌+◌, ◌<◌, ◌≤◌, true, ◌⊎◌, List, [], ◌∷◌, ◌++◌, length, take, drop, Some, None, sym, refl, ap, ◌∙◌, subst, inl, inr, ⊎_elim, add-zero, add-suc, suc-add, zero-add, arith}
 use Rattle.std.proofs.lemmas.Bool.{cases_eq, cases_lt, cond_both}
 use Rattle.std.proofs.lemmas.Option.{same_Some}
+use mathlib.Core.Path.{subst₂}
 use Rattle.interfaces.specs.Homes.{Meaning}
 use Rattle.model.specs.declared.door.Door.{Door}
 use Rattle.model.specs.declared.body.Body.{Body}
@@ -32,6 +33,17 @@ run_more w x y (s ∷ ts) t (z, d, r) c = (z, d, run_more z x y ts t r c)
 pub run_of : {w x : World} {ts : List Turn} → Reached w ts x → Run w ts x
 run_of begun = refl
 run_of (turned r t) = run_more _ _ _ _ _ (run_of r) t
+
+-- turns from the first hour over a home, under a highest stamp, and the world that they lead to
+pub record WholeRun : Type 0 where
+  pub home : Meaning
+  pub highest : ℕ
+  pub turns : List Turn
+  pub last : World
+  pub path : Run (first_hour home highest) turns last
+
+abbrev pub whole_run : {home : Meaning} {highest : ℕ} {ts : List Turn} {x : World} → Reached (first_hour home highest) ts x → WholeRun
+whole_run {home} {highest} {ts} {x} r = record { home = home; highest = highest; turns = ts; last = x; path = run_of r }
 
 -- Positions in a list of turns.
 
@@ -111,17 +123,29 @@ module _ (first : ℕ → List ℕ) (ts : List Turn) where
       let g = get_drop ts k (omega arith) in
       opened_fed k (before first ts k) g.0 g.1 (opened_by k (omega arith)) u rd (subst (λ y. y.section u ≡ Some rd) (before_suc k g.0 g.1) e)
 
-module _ (home : Meaning) (highest : ℕ) (ts : List Turn) (x : World) (run : Run (first_hour home highest) ts x) where
+module _ (run : WholeRun) where
+  abbrev first : ℕ → List ℕ
+  first = home_bytes run.home
+
+  abbrev ts : List Turn
+  ts = run.turns
+
   abbrev pub past : ℕ → History
-  past k = before (home_bytes home) ts k
+  past k = before first ts k
 
   -- the last entry of r before the turn at k
   abbrev pub seen : ℕ → ℕ → Entry
-  seen k r = ((before (home_bytes home) ts k).entries r).last
+  seen k r = ((before first ts k).entries r).last
 
   -- a fact of positions and worlds that every turn keeps
   abbrev pub Kept : (ℕ → World → Type 0) → Type 0
   Kept P = (k : ℕ) (t : Turn) (y z : World) → nth ts k ≡ Some t → Inv seen y (past k) → Turned y t z → P k y → P (suc k) z
+
+  -- what holds of the outcome of a turn holds behind it
+  pub behind : (Q : World → History → Type 0) (k : ℕ) {t : Turn} {y z : World} → nth ts k ≡ Some t → (d : Turned y t z)
+      → Q (step y d.stamp t.door t.call).after (fed k (past k) (turn t.door t.call (step y d.stamp t.door t.call).answer)) → Q z (past (suc k))
+  behind Q k {t} {y} {z} e d q =
+      subst (Q z) (sym (before_suc first ts k t e)) (subst₂ (λ v a. Q v (fed k (past k) (turn t.door t.call a))) d.leaves d.answers q)
 
   -- the turn at k, with the worlds before and behind it
   pub record TurnAt (P : ℕ → World → Type 0) (k : ℕ) (t : Turn) : Type 0 where
@@ -131,40 +155,36 @@ module _ (home : Meaning) (highest : ℕ) (ts : List Turn) (x : World) (run : Ru
     pub behind : World
     pub turned : Turned world t behind
 
-  module _ (P : ℕ → World → Type 0) (first : P 0 (first_hour home highest)) (kept : Kept P) where
+  module _ (P : ℕ → World → Type 0) (begins : P 0 (first_hour run.home run.highest)) (kept : Kept P) where
     record At (k : ℕ) : Type 0 where
       world : World
       inv : Inv seen world (past k)
       holds : P k world
-      rest : Run world (drop k ts) x
+      rest : Run world (drop k ts) run.last
 
     at : (k : ℕ) → k ≤ length ts → At k
-    at zero le = record { world = first_hour home highest; inv = outset_inv seen home highest; holds = first; rest = run }
+    at zero le = record { world = first_hour run.home run.highest; inv = outset_inv seen run.home run.highest; holds = begins; rest = run.path }
     at (suc k) le =
         let a = at k (omega arith) in
         let g = get_drop ts k (omega arith) in
         let t = g.0 in
-        let c = subst (λ l. Run a.world l x) g.2 a.rest in
-        let d = c.1 in
-        let s = step_good seen a.world (past k) a.inv k d.stamp t.door t.call (λ r. refl) d.lawful in
-        let n : Inv seen c.0 (fed k (past k) t) =
-        subst (λ y. Inv seen y (fed k (past k) t)) d.leaves
-        (subst (λ y. Inv seen (step a.world d.stamp t.door t.call).after (fed k (past k) (turn t.door t.call y))) d.answers s) in
-        record { world = c.0; inv = subst (Inv seen c.0) (sym (before_suc (home_bytes home) ts k t g.1)) n; holds = kept k t a.world c.0 g.1 a.inv d a.holds; rest = c.2 }
+        let c = subst (λ l. Run a.world l run.last) g.2 a.rest in
+        let n = behind (Inv seen) k g.1 c.1 (step_good seen a.world (past k) a.inv k c.1.stamp t.door t.call (λ r. refl) c.1.lawful) in
+        record { world = c.0; inv = n; holds = kept k t a.world c.0 g.1 a.inv c.1 a.holds; rest = c.2 }
 
     pub turn_at : (k : ℕ) (t : Turn) → nth ts k ≡ Some t → TurnAt P k t
     turn_at k t e =
         let lt = get_lt ts k t e in
         let a = at k (omega arith) in
         let g = get_drop ts k lt in
-        let c = subst (λ l. Run a.world l x) (g.2 ∙ ap (λ y. y ∷ drop (suc k) ts) (same_Some g.0 t (sym g.1 ∙ e))) a.rest in
+        let c = subst (λ l. Run a.world l run.last) (g.2 ∙ ap (λ y. y ∷ drop (suc k) ts) (same_Some g.0 t (sym g.1 ∙ e))) a.rest in
         record { world = a.world; inv = a.inv; holds = a.holds; behind = c.0; turned = c.1 }
 
   -- Commits.
 
   -- no commit before has answered above the highest stamp
   Bounded : ℕ → World → Type 0
-  Bounded k w = (n c : ℕ) → CommitAt (home_bytes home) ts n c → n < k → c ≤ w.highest
+  Bounded k w = (n c : ℕ) → CommitAt first ts n c → n < k → c ≤ w.highest
 
   bounded : Kept Bounded
   unfolding Bounded
@@ -184,12 +204,12 @@ module _ (home : Meaning) (highest : ℕ) (ts : List Turn) (x : World) (run : Ru
               let after : (step y d.stamp at.door (Commit at.user)).after.highest ≡ z.highest = ap (λ v. v.highest) d.leaves in
               omega (arith, st.low, after)
 
-  commit_turn : (m c : ℕ) (at : CommitAt (home_bytes home) ts m c) → TurnAt Bounded m (turn at.door (Commit at.user) (committed c))
+  commit_turn : (m c : ℕ) (at : CommitAt first ts m c) → TurnAt Bounded m (turn at.door (Commit at.user) (committed c))
   unfolding Bounded
   commit_turn m c at = turn_at Bounded (λ n c at lt. absurd (let f : ⊥ = omega arith in f)) bounded m _ at.is
 
   -- two commits never answer the same stamp above 0
-  once : (n m c : ℕ) → CommitAt (home_bytes home) ts n c → CommitAt (home_bytes home) ts m c → 0 < c → n < m → ⊥
+  once : (n m c : ℕ) → CommitAt first ts n c → CommitAt first ts m c → 0 < c → n < m → ⊥
   unfolding Bounded
   once n m c a b pos lt =
       let t = commit_turn m c b in
@@ -213,24 +233,24 @@ module _ (home : Meaning) (highest : ℕ) (ts : List Turn) (x : World) (run : Ru
       (z.0, z.1, omega (arith, (y.inv.ledgers r).bound, z.2))
 
   -- a commit of r at m: the last entry after it, and its version is new
-  commit_last : (m r c : ℕ) (b : Body) → StoreAt (home_bytes home) ts m r c b → (seen (suc m) r ≡ entry c b) × ((seen m r).version < c)
+  commit_last : (m r c : ℕ) (b : Body) → StoreAt first ts m r c b → (seen (suc m) r ≡ entry c b) × ((seen m r).version < c)
   commit_last m r c b k =
       let a = carrying m k.commit.user r k.commit.door (committed c) b k.commit.is refl k.carries in
       let e : c ≡ a.0 = cc a.1 in
-      (ap (λ y. (y.entries r).last) (before_suc (home_bytes home) ts m _ k.commit.is) ∙ ap (λ d. (stored c d ((past m).entries r)).last) k.carries, omega (arith, a.2, e))
+      (ap (λ y. (y.entries r).last) (before_suc first ts m _ k.commit.is) ∙ ap (λ d. (stored c d ((past m).entries r)).last) k.carries, omega (arith, a.2, e))
 
   -- one turn leaves the last entry of r, or is a commit of r
-  one_turn : (k r : ℕ) → k < length ts → (seen (suc k) r ≡ seen k r) ⊎ ((c : ℕ) × (b : Body) × StoreAt (home_bytes home) ts k r c b)
+  one_turn : (k r : ℕ) → k < length ts → (seen (suc k) r ≡ seen k r) ⊎ ((c : ℕ) × (b : Body) × StoreAt first ts k r c b)
   one_turn k r lt =
       let g = get_drop ts k lt in
-      subst (λ y. ((y.entries r).last ≡ seen k r) ⊎ ((c : ℕ) × (b : Body) × StoreAt (home_bytes home) ts k r c b)) (sym (before_suc (home_bytes home) ts k g.0 g.1))
-      (cond_both (accepted g.0.answer) (change k (past k) g.0.call g.0.answer) (past k) (λ (y : History). ((y.entries r).last ≡ seen k r) ⊎ ((c : ℕ) × (b : Body) × StoreAt (home_bytes home) ts k r c b))
+      subst (λ y. ((y.entries r).last ≡ seen k r) ⊎ ((c : ℕ) × (b : Body) × StoreAt first ts k r c b)) (sym (before_suc first ts k g.0 g.1))
+      (cond_both (accepted g.0.answer) (change k (past k) g.0.call g.0.answer) (past k) (λ (y : History). ((y.entries r).last ≡ seen k r) ⊎ ((c : ℕ) × (b : Body) × StoreAt first ts k r c b))
       (λ t. by g.0.door g.0.call g.0.answer g.1 t) (λ _. inl refl))
     where
       by : (d : Door) (call : Call) (a : Answer) → nth ts k ≡ Some (turn d call a) → accepted a ≡ true
-          → (((change k (past k) call a).entries r).last ≡ seen k r) ⊎ ((c : ℕ) × (b : Body) × StoreAt (home_bytes home) ts k r c b)
+          → (((change k (past k) call a).entries r).last ≡ seen k r) ⊎ ((c : ℕ) × (b : Body) × StoreAt first ts k r c b)
       by d (Commit u) a e t =
-          option_case (λ o. ((stored (answered_version a) o ((past k).entries r)).last ≡ seen k r) ⊎ ((c : ℕ) × (b : Body) × StoreAt (home_bytes home) ts k r c b)) (draft (past k) u r) (λ _. inl refl)
+          option_case (λ o. ((stored (answered_version a) o ((past k).entries r)).last ≡ seen k r) ⊎ ((c : ℕ) × (b : Body) × StoreAt first ts k r c b)) (draft (past k) u r) (λ _. inl refl)
           (λ b q. (let z = carrying k u r d a b e t q in
           inr (z.0, b, record { commit = record { door = d; user = u; is = e ∙ ap (λ v. Some (turn d (Commit u) v)) z.1 }; carries = q })))
       by d _ a e t = inl refl
@@ -245,7 +265,7 @@ module _ (home : Meaning) (highest : ℕ) (ts : List Turn) (x : World) (run : Ru
   grows i j r le lj = along (λ y. (seen i r).version ≤ (seen y r).version) i j le (omega arith) (λ k a l ih. omega (arith, ih, grow_one k r (omega arith)))
 
   -- with no commit of r on the way the last entry stays
-  same_between : (i j r : ℕ) → i ≤ j → j ≤ length ts → ((m c : ℕ) (b : Body) → StoreAt (home_bytes home) ts m r c b → i ≤ m → m < j → ⊥) → seen j r ≡ seen i r
+  same_between : (i j r : ℕ) → i ≤ j → j ≤ length ts → ((m c : ℕ) (b : Body) → StoreAt first ts m r c b → i ≤ m → m < j → ⊥) → seen j r ≡ seen i r
   same_between i j r le lj no' =
       along (λ y. seen y r ≡ seen i r) i j le refl (λ k a l ih. ⊎_elim (λ e. e ∙ ih) (λ z. absurd (no' k z.0 z.1 z.2 a l)) (one_turn k r (omega arith)))
 
@@ -254,7 +274,7 @@ module _ (home : Meaning) (highest : ℕ) (ts : List Turn) (x : World) (run : Ru
     pub m : ℕ
     pub c : ℕ
     pub b : Body
-    pub commit : StoreAt (home_bytes home) ts m r c b
+    pub commit : StoreAt first ts m r c b
     pub earlier : m < k
     pub is : seen k r ≡ entry c b
 
@@ -265,11 +285,11 @@ module _ (home : Meaning) (highest : ℕ) (ts : List Turn) (x : World) (run : Ru
       old j (inl e) q = inl (q ∙ e)
       old j (inr o) q = inr (record { m = o.m; c = o.c; b = o.b; commit = o.commit; earlier = omega (arith, o.earlier); is = q ∙ o.is })
 
-      new : (j : ℕ) → ((c : ℕ) × (b : Body) × StoreAt (home_bytes home) ts j r c b) → (seen (suc j) r ≡ seen 0 r) ⊎ Origin (suc j) r
+      new : (j : ℕ) → ((c : ℕ) × (b : Body) × StoreAt first ts j r c b) → (seen (suc j) r ≡ seen 0 r) ⊎ Origin (suc j) r
       new j z = inr (record { m = j; c = z.0; b = z.1; commit = z.2; earlier = omega arith; is = (commit_last j r z.0 z.1 z.2).0 })
 
   -- a commit of r between two positions tells the versions apart
-  pub apart : (i j r m c : ℕ) (b : Body) → StoreAt (home_bytes home) ts m r c b → i ≤ m → m < j → j ≤ length ts → (seen i r).version < (seen j r).version
+  pub apart : (i j r m c : ℕ) (b : Body) → StoreAt first ts m r c b → i ≤ m → m < j → j ≤ length ts → (seen i r).version < (seen j r).version
   apart i j r m c b k le lt lj =
       let l = commit_last m r c b k in
       let q : (seen (suc m) r).version ≡ c = ap (λ y. y.version) l.0 in
@@ -282,19 +302,19 @@ module _ (home : Meaning) (highest : ℕ) (ts : List Turn) (x : World) (run : Ru
     state : st ≡ version_state (seen o r).body.mark
     version : v ≡ (seen o r).version
     fits : o < length ts
-    opens : (m c : ℕ) (b : Body) → StoreAt (home_bytes home) ts m r c b → m ≡ o → ⊥
+    opens : (m c : ℕ) (b : Body) → StoreAt first ts m r c b → m ≡ o → ⊥
 
   -- a turn that opens is no commit
   no_commit : (d e : Door) (c u v : ℕ) (a : Answer) → Some (turn d (Commit u) (committed c)) ≡ Some (turn e (Open v) a) → ⊥
   no_commit d e c u v a p = cc (ap (λ (t : Turn). t.call) (same_Some (turn d (Commit u) (committed c)) (turn e (Open v) a) p))
 
-  saw : (k r o : ℕ) (st : State) (v : ℕ) → FindAt (home_bytes home) ts k r o st v → Saw r o st v
+  saw : (k r o : ℕ) (st : State) (v : ℕ) → FindAt first ts k r o st v → Saw r o st v
   saw k r o st v f =
       let t = turned_at k _ f.is in
       let a = find_answer seen t.world (past k) t.inv f.user f.hold r st v f.reader f.open_section f.no_draft
       (own_answered t.world t.turned.stamp f.door (Find f.user f.hold r) (found st v) t.turned.answers refl) in
       let lt = get_lt ts k _ f.is in
-      let b = opened_by (home_bytes home) ts k (omega arith) f.user f.reader f.open_section in
+      let b = opened_by first ts k (omega arith) f.user f.reader f.open_section in
       subst (λ y. Saw r y st v) f.opened
       (record {
         state = a.0;
@@ -303,7 +323,7 @@ module _ (home : Meaning) (highest : ℕ) (ts : List Turn) (x : World) (run : Ru
         opens = λ m c y z e. no_commit z.commit.door b.door c z.commit.user b.user b.answer (sym z.commit.is ∙ ap (nth ts) e ∙ b.is);
       })
 
-  find_law : EqualFinds (home_bytes home) ts
+  find_law : EqualFinds first ts
   find_law k₁ k₂ r o₁ o₂ v₁ v₂ st₁ st₂ f₁ f₂ = (only, whenever)
     where
       s₁ : Saw r o₁ st₁ v₁
@@ -312,14 +332,14 @@ module _ (home : Meaning) (highest : ℕ) (ts : List Turn) (x : World) (run : Ru
       s₂ : Saw r o₂ st₂ v₂
       s₂ = saw k₂ r o₂ st₂ v₂ f₂
 
-      only : (v₁ ≡ v₂) × (st₁ ≡ st₂) → (m c : ℕ) (b : Body) → StoreAt (home_bytes home) ts m r c b → Between (home_bytes home) ts o₁ m o₂ → ⊥
+      only : (v₁ ≡ v₂) × (st₁ ≡ st₂) → (m c : ℕ) (b : Body) → StoreAt first ts m r c b → Between first ts o₁ m o₂ → ⊥
       only e m c b k (inl z) = omega (arith, apart o₁ o₂ r m c b k (omega (arith, z.0)) z.1 (omega (arith, s₂.fits)), s₁.version, s₂.version, e.0)
       only e m c b k (inr z) = omega (arith, apart o₂ o₁ r m c b k (omega (arith, z.0)) z.1 (omega (arith, s₁.fits)), s₁.version, s₂.version, e.0)
 
       equal : seen o₁ r ≡ seen o₂ r → (v₁ ≡ v₂) × (st₁ ≡ st₂)
       equal q = (s₁.version ∙ ap (λ y. y.version) q ∙ sym s₂.version, s₁.state ∙ ap (λ y. version_state y.body.mark) q ∙ sym s₂.state)
 
-      whenever : ((m c : ℕ) (b : Body) → StoreAt (home_bytes home) ts m r c b → Between (home_bytes home) ts o₁ m o₂ → ⊥) → (v₁ ≡ v₂) × (st₁ ≡ st₂)
+      whenever : ((m c : ℕ) (b : Body) → StoreAt first ts m r c b → Between first ts o₁ m o₂ → ⊥) → (v₁ ≡ v₂) × (st₁ ≡ st₂)
       whenever no' =
           ⊎_elim (λ lt. equal (sym (same_between o₁ o₂ r (omega (arith, lt)) (omega (arith, s₂.fits))
           (λ m c b k a l. ⊎_elim (λ e. s₁.opens m c b k e) (λ n. no' m c b k (inl (omega (arith, a, n), l))) (cases_eq m o₁)))))
@@ -329,7 +349,7 @@ module _ (home : Meaning) (highest : ℕ) (ts : List Turn) (x : World) (run : Ru
 
   -- Held bytes.
 
-  take_law : HeldBytes (home_bytes home) ts
+  take_law : HeldBytes first ts
   take_law k hold offset count r v reader bs f holds = (above, zero_case)
     where
       o : ℕ
@@ -338,7 +358,7 @@ module _ (home : Meaning) (highest : ℕ) (ts : List Turn) (x : World) (run : Ru
       fits : o ≤ length ts
       fits =
           let lt = get_lt ts k _ f.is in
-          let b = opened_by (home_bytes home) ts k (omega arith) f.user reader f.open_section in
+          let b = opened_by first ts k (omega arith) f.user reader f.open_section in
           omega (arith, b.earlier, lt)
 
       answer : (v ≡ (seen o r).version) × (bs ≡ part offset count (seen o r).body.bytes)
@@ -353,10 +373,10 @@ module _ (home : Meaning) (highest : ℕ) (ts : List Turn) (x : World) (run : Ru
       stamp : (g : Origin o r) → v ≡ g.c
       stamp g = answer.0 ∙ ap (λ y. y.version) g.is
 
-      above : 0 < v → (m : ℕ) × (b : Body) × StoredBy (home_bytes home) ts r v o m b × (bs ≡ part offset count b.bytes)
+      above : 0 < v → (m : ℕ) × (b : Body) × StoredBy first ts r v o m b × (bs ≡ part offset count b.bytes)
       above pos =
           ⊎_elim (λ e. absurd (let f : ⊥ = omega (arith, pos, first_zero e) in f))
-          (λ g. (let k : StoreAt (home_bytes home) ts g.m r v g.b = subst (λ y. StoreAt (home_bytes home) ts g.m r y g.b) (sym (stamp g)) g.commit in (
+          (λ g. (let k : StoreAt first ts g.m r v g.b = subst (λ y. StoreAt first ts g.m r y g.b) (sym (stamp g)) g.commit in (
             g.m,
             g.b,
             record {
@@ -369,13 +389,13 @@ module _ (home : Meaning) (highest : ℕ) (ts : List Turn) (x : World) (run : Ru
           )))
           (origin o r fits)
 
-      zero_case : v ≡ 0 → bs ≡ part offset count (home_bytes home r)
+      zero_case : v ≡ 0 → bs ≡ part offset count (first r)
       zero_case z =
           ⊎_elim (λ e. answer.1 ∙ ap (λ y. part offset count y.body.bytes) e)
           (λ g. absurd (let q = (commit_last g.m r g.c g.b g.commit).1 in let f : ⊥ = omega (arith, q, stamp g, z) in f)) (origin o r fits)
 
 pub equal_finds : OfEveryRun EqualFinds
-equal_finds home highest ts w r = find_law home highest ts w (run_of r)
+equal_finds home highest turns w r = find_law (whole_run r)
 
 pub held_bytes : OfEveryRun HeldBytes
-held_bytes home highest ts w r = take_law home highest ts w (run_of r)
+held_bytes home highest turns w r = take_law (whole_run r)

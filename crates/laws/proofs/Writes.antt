@@ -1,11 +1,10 @@
 -- No write is lost: at most one user has a draft of a record, and while it has one, the record's last entry is the one that its section has seen.
-use Rattle.std.proofs.Common.{◌≡◌, ℕ, ◌<◌, ◌≤◌, true, false, not, ◌&&◌, eqb, ◌⊎◌, List, Some, None, Option, sym, refl, ap, ◌∙◌, subst, inl, inr, ⊎_elim, arith}
+use Rattle.std.proofs.Common.{◌≡◌, ℕ, ◌<◌, ◌≤◌, true, false, not, ◌&&◌, eqb, ◌⊎◌, Some, None, Option, sym, refl, ap, ◌∙◌, subst, inl, inr, ⊎_elim, arith}
 use Rattle.std.proofs.lemmas.Bool.{ne_eqb, cases_eq, and_from, not_from_false, cond_both}
-use Rattle.interfaces.specs.Homes.{Meaning}
 use Rattle.model.specs.declared.body.Body.{Body}
 use Rattle.model.specs.Tools.{put, on_some, is_some, least}
 use Rattle.model.specs.Worlds.{Entry, Section, World, home_bytes, written, blank, first_hour}
-use Rattle.model.specs.Calls.{Call, Open, Find, Lock, Put, Clear, Commit, Abort, Answer, Turn, accepted}
+use Rattle.model.specs.Calls.{Call, Open, Find, Lock, Put, Clear, Commit, Abort, Answer, accepted}
 use Rattle.model.specs.Versions.{newest}
 use Rattle.model.specs.Drafts.{has_draft, locked_by_other}
 use Rattle.model.specs.Steps.{Outcome, lock_step, own_step}
@@ -17,7 +16,7 @@ use Rattle.laws.proofs.Invariant.{base, SectionOk, Inv, section_here}
 use Rattle.laws.proofs.Reading.{newest_is, draft_here, has_draft_is}
 use Rattle.laws.proofs.Answers.{own_answered}
 use Rattle.laws.proofs.Cases.{lock_cases}
-use Rattle.laws.proofs.Runs.{Run, run_of, get_lt, before_suc, past, seen, Kept, turn_at, apart}
+use Rattle.laws.proofs.Runs.{WholeRun, whole_run, get_lt, before_suc, past, seen, Kept, turn_at, apart}
 
 -- u's open section, opened at o, has a draft of r
 pub record Owns (h : History) (u r o : ℕ) : Type 0 where
@@ -183,28 +182,28 @@ module _ (seen' : ℕ → ℕ → Entry) where
     turn_alone k c (Abort u) a e t = fewer h _ (λ v r o x. (replaced h u None (λ _. refl) v r o x).1) (λ v r o x. refl) alone
     turn_alone k c _ a e t = alone
 
-module _ (home : Meaning) (highest : ℕ) (ts : List Turn) (x : World) (run : Run (first_hour home highest) ts x) where
+module _ (run : WholeRun) where
   abbrev AloneAt : ℕ → World → Type 0
-  AloneAt k y = Alone (seen home highest ts x run) (past home highest ts x run k)
+  AloneAt k y = Alone (seen run) (past run k)
 
-  alone_kept : Kept home highest ts x run AloneAt
+  alone_kept : Kept run AloneAt
   alone_kept k t y z e inv turned alone =
-      subst (Alone (seen home highest ts x run)) (sym (before_suc (home_bytes home) ts k t e))
-      (cond_both (accepted t.answer) (change k (past home highest ts x run k) t.call t.answer) (past home highest ts x run k) (Alone (seen home highest ts x run))
-      (λ ok. turn_alone (seen home highest ts x run) y (past home highest ts x run k) inv alone k turned.stamp t.call t.answer
+      subst (Alone (seen run)) (sym (before_suc (home_bytes run.home) run.turns k t e))
+      (cond_both (accepted t.answer) (change k (past run k) t.call t.answer) (past run k) (Alone (seen run))
+      (λ ok. turn_alone (seen run) y (past run k) inv alone k turned.stamp t.call t.answer
       (own_answered y turned.stamp t.door t.call t.answer turned.answers ok) ok) (λ _. alone))
 
   -- at first no section is open
-  alone_first : AloneAt 0 (first_hour home highest)
+  alone_first : AloneAt 0 (first_hour run.home run.highest)
   alone_first = record { one = λ u v r o p y z. cc y.is; based = λ u r o y. cc y.is }
 
-  writes_stay : NoWriteLost (home_bytes home) ts
+  writes_stay : NoWriteLost (home_bytes run.home) run.turns
   writes_stay m r c b own rd is n d e other lo hi =
-      let lt = get_lt ts m _ own.commit.is in
-      let t = turn_at home highest ts x run AloneAt alone_first alone_kept m _ own.commit.is in
-      let q : (seen home highest ts x run rd.opened_at r).version ≡ (seen home highest ts x run m r).version = ap (λ y. y.version) (t.holds.based own.commit.user r rd.opened_at
+      let lt = get_lt run.turns m _ own.commit.is in
+      let t = turn_at run AloneAt alone_first alone_kept m _ own.commit.is in
+      let q : (seen run rd.opened_at r).version ≡ (seen run m r).version = ap (λ y. y.version) (t.holds.based own.commit.user r rd.opened_at
       (record { rd = rd; b = b; is = is; has = ap (λ y. draft_in y r) (sym is) ∙ own.carries; at = refl })) in
-      omega (arith, q, apart home highest ts x run rd.opened_at m r n d e other (omega (arith, lo)) hi (omega (arith, lt)))
+      omega (arith, q, apart run rd.opened_at m r n d e other (omega (arith, lo)) hi (omega (arith, lt)))
 
 pub no_write_lost : OfEveryRun NoWriteLost
-no_write_lost home highest ts x reached = writes_stay home highest ts x (run_of reached)
+no_write_lost home highest ts x reached = writes_stay (whole_run reached)
