@@ -36,6 +36,12 @@ pub on_some_some : {A B : Type 0} (f : A → B) (o : Option A) (b : B) → on_so
 on_some_some f None b e = cc
 on_some_some f (Some a) b e = (a, refl, cc)
 
+-- what stands in the table where f is put on what stood at v
+pub put_on_some : {A : Type 0} (Q : Type 0) (t : ℕ → Option A) (v : ℕ) (f : A → A) (u : ℕ) (a : A) → ((b : A) → u ≡ v → t u ≡ Some b → f b ≡ a → Q) → (t u ≡ Some a → Q)
+    → put t v (on_some f (t v)) u ≡ Some a → Q
+put_on_some Q t v f u a here there =
+    put_case (λ o. o ≡ Some a → Q) t v (on_some f (t v)) u (λ e q. (let g = on_some_some f (t v) a q in here g.0 e (ap t e ∙ g.1) g.2)) (λ _ q. there q)
+
 pub is_some_false : {A : Type 0} (o : Option A) → is_some o ≡ false → o ≡ None
 is_some_false None q = refl
 is_some_false (Some x) q = cc

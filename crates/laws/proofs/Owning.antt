@@ -18,7 +18,7 @@ use Rattle.model.specs.Steps.{fresh, Outcome, holding, held, take_step, settle, 
 use Rattle.model.specs.History.{Held, own_draft, Reader, History, draft_in, with_reader, opening, held_by, finding, locking, editing, fed}
 use Rattle.laws.specs.Laws.{DraftsOwn}
 use Rattle.laws.specs.Theorems.{OfEveryRun}
-use Rattle.laws.proofs.Basics.{eq_case, bool_case, put_case, on_some_some}
+use Rattle.laws.proofs.Basics.{eq_case, bool_case, on_some_some, put_on_some}
 use Rattle.laws.proofs.Cases.{free_here, step_cases, open_cases, find_cases, take_cases, lock_cases, put_cases, clear_cases, commit_cases, abort_cases, collect_cases}
 use Rattle.laws.proofs.Invariant.{draft_slot, Inv}
 use Rattle.laws.proofs.Reading.{draft_here, no_draft_here}
@@ -51,11 +51,9 @@ carry_own log log' u hold held f own i r e =
 carry_owned : (ws : ℕ → Option Section) (hs : ℕ → Option Reader) (slot slot' : ℕ → ℕ → Option Slot) (u : ℕ) (f : Reader → Reader) → ((y : Reader) → (f y).hold ≡ y.hold)
     → ((v : ℕ) → Stays (slot v) (slot' v)) → Owned ws hs slot → Owned ws (put hs u (on_some f (hs u))) slot'
 carry_owned ws hs slot slot' u f same stays own v s rd e =
-    put_case (λ y. y ≡ Some rd → Own (slot' v) v s.hold rd.hold) hs u (on_some f (hs u)) v
-    (λ z q. (let g = on_some_some f (hs u) rd q in
-    subst (Own (slot' v) v s.hold) (sym (same g.0) ∙ ap (λ y. y.hold) g.2)
-    (carry_own (slot v) (slot' v) v s.hold g.0.hold (stays v) (own v s g.0 e (ap hs z ∙ g.1)))))
-    (λ _ q. carry_own (slot v) (slot' v) v s.hold rd.hold (stays v) (own v s rd e q))
+    put_on_some (Own (slot' v) v s.hold rd.hold) hs u f v rd
+    (λ y _ i q. subst (Own (slot' v) v s.hold) (sym (same y) ∙ ap (λ y. y.hold) q) (carry_own (slot v) (slot' v) v s.hold y.hold (stays v) (own v s y e i)))
+    (λ q. carry_own (slot v) (slot' v) v s.hold rd.hold (stays v) (own v s rd e q))
 
 -- u's section opens, changes or closes
 put_owned : (ws : ℕ → Option Section) (hs : ℕ → Option Reader) (slot slot' : ℕ → ℕ → Option Slot) (u : ℕ) (x : Option Section) (y : Option Reader)

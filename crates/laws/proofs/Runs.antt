@@ -16,7 +16,7 @@ use Rattle.model.specs.History.{Reader, History, answered_version, draft, findin
 use Rattle.laws.specs.Runs.{Turned, Reached, begun, turned}
 use Rattle.laws.specs.Laws.{FindAt, CommitAt, StoreAt, Between, EqualFinds, StoredBy, HeldBytes}
 use Rattle.laws.specs.Theorems.{OfEveryRun}
-use Rattle.laws.proofs.Basics.{option_case, put_case, on_some_some}
+use Rattle.laws.proofs.Basics.{option_case, put_case, put_on_some}
 use Rattle.laws.proofs.Invariant.{entry, Inv}
 use Rattle.laws.proofs.Answers.{outset_inv, step_good, find_answer, take_answer, commit_answer, accepted_own, own_answered}
 use Rattle.laws.proofs.Rising.{step_up, commit_stamped}
@@ -93,8 +93,7 @@ module _ (first : ℕ → List ℕ) (ts : List Turn) where
 
       changed : (f : Reader → Reader) → ((x : Reader) → (f x).opened_at ≡ x.opened_at) → (v u : ℕ) (rd : Reader) → put h.section v (on_some f (h.section v)) u ≡ Some rd → OpenedBy (suc k) rd.opened_at
       changed f same v u rd =
-          put_case (λ y. y ≡ Some rd → OpenedBy (suc k) rd.opened_at) h.section v (on_some f (h.section v)) u
-          (λ _ q. (let g = on_some_some f (h.section v) rd q in subst (OpenedBy (suc k)) (sym (same g.0) ∙ ap (λ y. y.opened_at) g.2) (kept v g.0 g.1))) (λ _ q. kept u rd q)
+          put_on_some (OpenedBy (suc k) rd.opened_at) h.section v f u rd (λ y _ i q. subst (OpenedBy (suc k)) (sym (same y) ∙ ap (λ y. y.opened_at) q) (kept u y i)) (kept u rd)
 
       closed : (v u : ℕ) (rd : Reader) → put h.section v None u ≡ Some rd → OpenedBy (suc k) rd.opened_at
       closed v u rd = put_case (λ y. y ≡ Some rd → OpenedBy (suc k) rd.opened_at) h.section v None u (λ _ q. cc) (λ _ q. kept u rd q)
@@ -239,18 +238,22 @@ module _ (run : WholeRun) where
       let e : c ≡ a.0 = cc a.1 in
       (ap (λ y. (y.entries r).last) (before_suc first ts m _ k.commit.is) ∙ ap (λ d. (stored c d ((past m).entries r)).last) k.carries, omega (arith, a.2, e))
 
+  -- the turn at k is a commit of r
+  abbrev Stores : ℕ → ℕ → Type 0
+  Stores k r = (c : ℕ) × (b : Body) × StoreAt first ts k r c b
+
   -- one turn leaves the last entry of r, or is a commit of r
-  one_turn : (k r : ℕ) → k < length ts → (seen (suc k) r ≡ seen k r) ⊎ ((c : ℕ) × (b : Body) × StoreAt first ts k r c b)
+  one_turn : (k r : ℕ) → k < length ts → (seen (suc k) r ≡ seen k r) ⊎ Stores k r
   one_turn k r lt =
       let g = get_drop ts k lt in
-      subst (λ y. ((y.entries r).last ≡ seen k r) ⊎ ((c : ℕ) × (b : Body) × StoreAt first ts k r c b)) (sym (before_suc first ts k g.0 g.1))
-      (cond_both (accepted g.0.answer) (change k (past k) g.0.call g.0.answer) (past k) (λ (y : History). ((y.entries r).last ≡ seen k r) ⊎ ((c : ℕ) × (b : Body) × StoreAt first ts k r c b))
+      subst (λ y. ((y.entries r).last ≡ seen k r) ⊎ Stores k r) (sym (before_suc first ts k g.0 g.1))
+      (cond_both (accepted g.0.answer) (change k (past k) g.0.call g.0.answer) (past k) (λ (y : History). ((y.entries r).last ≡ seen k r) ⊎ Stores k r)
       (λ t. by g.0.door g.0.call g.0.answer g.1 t) (λ _. inl refl))
     where
       by : (d : Door) (call : Call) (a : Answer) → nth ts k ≡ Some (turn d call a) → accepted a ≡ true
-          → (((change k (past k) call a).entries r).last ≡ seen k r) ⊎ ((c : ℕ) × (b : Body) × StoreAt first ts k r c b)
+          → (((change k (past k) call a).entries r).last ≡ seen k r) ⊎ Stores k r
       by d (Commit u) a e t =
-          option_case (λ o. ((stored (answered_version a) o ((past k).entries r)).last ≡ seen k r) ⊎ ((c : ℕ) × (b : Body) × StoreAt first ts k r c b)) (draft (past k) u r) (λ _. inl refl)
+          option_case (λ o. ((stored (answered_version a) o ((past k).entries r)).last ≡ seen k r) ⊎ Stores k r) (draft (past k) u r) (λ _. inl refl)
           (λ b q. (let z = carrying k u r d a b e t q in
           inr (z.0, b, record { commit = record { door = d; user = u; is = e ∙ ap (λ v. Some (turn d (Commit u) v)) z.1 }; carries = q })))
       by d _ a e t = inl refl
@@ -285,7 +288,7 @@ module _ (run : WholeRun) where
       old j (inl e) q = inl (q ∙ e)
       old j (inr o) q = inr (record { m = o.m; c = o.c; b = o.b; commit = o.commit; earlier = omega (arith, o.earlier); is = q ∙ o.is })
 
-      new : (j : ℕ) → ((c : ℕ) × (b : Body) × StoreAt first ts j r c b) → (seen (suc j) r ≡ seen 0 r) ⊎ Origin (suc j) r
+      new : (j : ℕ) → Stores j r → (seen (suc j) r ≡ seen 0 r) ⊎ Origin (suc j) r
       new j z = inr (record { m = j; c = z.0; b = z.1; commit = z.2; earlier = omega arith; is = (commit_last j r z.0 z.1 z.2).0 })
 
   -- a commit of r between two positions tells the versions apart

@@ -11,7 +11,7 @@ use Rattle.model.specs.Steps.{Outcome, lock_step, own_step}
 use Rattle.model.specs.History.{Reader, History, answered_version, draft_in, draft, finding, drafted, locking, editing, stored, change}
 use Rattle.laws.specs.Laws.{NoWriteLost}
 use Rattle.laws.specs.Theorems.{OfEveryRun}
-use Rattle.laws.proofs.Basics.{is_some_false, option_case, put_case, on_some_some, least_none}
+use Rattle.laws.proofs.Basics.{is_some_false, option_case, put_case, on_some_some, put_on_some, least_none}
 use Rattle.laws.proofs.Invariant.{base, SectionOk, Inv, section_here}
 use Rattle.laws.proofs.Reading.{newest_is, draft_here, has_draft_is}
 use Rattle.laws.proofs.Answers.{own_answered}
@@ -50,15 +50,13 @@ module _ (seen' : ℕ → ℕ → Entry) where
   changed : (h : History) (v : ℕ) (f : Reader → Reader) → ((y : Reader) → (f y).opened_at ≡ y.opened_at)
       → ((y : Reader) (r : ℕ) (b : Body) → (f y).draft r ≡ Some b → (c : Body) × (y.draft r ≡ Some c))
       → Alone h → Alone (record { entries = h.entries; section = put h.section v (on_some f (h.section v)) })
-  changed h v f same none_new a = fewer h _ by (λ u r o x. refl) a
-    where
-      by : (u r o : ℕ) → Owns (record { entries = h.entries; section = put h.section v (on_some f (h.section v)) }) u r o → Owns h u r o
-      by u r o x =
-          put_case (λ y. y ≡ Some x.rd → Owns h u r o) h.section v (on_some f (h.section v)) u
-          (λ e q. (let g = on_some_some f (h.section v) x.rd q in
-          let d = none_new g.0 r x.b (ap (λ y. y.draft r) g.2 ∙ x.has) in
-          record { rd = g.0; b = d.0; is = ap h.section e ∙ g.1; has = d.1; at = sym (same g.0) ∙ ap (λ y. y.opened_at) g.2 ∙ x.at }))
-          (λ _ q. same_owns u x q) x.is
+  changed h v f same none_new a =
+      fewer h _
+      (λ u r o x. put_on_some (Owns h u r o) h.section v f u x.rd
+      (λ y _ i q. (let d = none_new y r x.b (ap (λ z. z.draft r) q ∙ x.has) in
+      record { rd = y; b = d.0; is = i; has = d.1; at = sym (same y) ∙ ap (λ z. z.opened_at) q ∙ x.at }))
+      (λ q. same_owns u x q) x.is)
+      (λ u r o x. refl) a
 
   -- a section without drafts, or none, in the place of v's
   replaced : (h : History) (v : ℕ) (q : Option Reader) → ((r : ℕ) → draft_in q r ≡ None) → (u r o : ℕ)
@@ -74,17 +72,19 @@ module _ (seen' : ℕ → ℕ → Entry) where
       (λ e k. (let g = on_some_some f (y.draft q) b k in (g.0, ap y.draft e ∙ g.1))) (λ _ k. (b, k))
 
   module _ (w : World) (h : History) (inv : Inv seen' w h) (alone : Alone h) where
-    -- what an accepted first lock tells: no other has a draft of the record, and its last entry is the one that the section has seen
-    lock_tells : (u r : ℕ) (a : Answer) → (lock_step w u r).answer ≡ a → accepted a ≡ true → draft h u r ≡ None
-        → locked_by_other w.slot w.oldest u r ≡ false × ((rd : Reader) → h.section u ≡ Some rd → seen' rd.opened_at r ≡ (h.entries r).last)
+    -- no other than u has a draft of the record, and its last entry is the one that u's section has seen
+    abbrev FirstLock : ℕ → ℕ → Type 0
+    FirstLock u r = locked_by_other w.slot w.oldest u r ≡ false × ((rd : Reader) → h.section u ≡ Some rd → seen' rd.opened_at r ≡ (h.entries r).last)
+
+    -- what an accepted first lock tells
+    lock_tells : (u r : ℕ) (a : Answer) → (lock_step w u r).answer ≡ a → accepted a ≡ true → draft h u r ≡ None → FirstLock u r
     lock_tells u r a =
         lock_cases P w (λ why e t _. cc (ap accepted e)) u r
         (λ s i l _ _ _. (l.no_other, λ rd is. based' s rd (section_here seen' inv u s rd l.open_section is) l.not_newer))
         (λ s e i q _ _ n. (let d = draft_here seen' w h inv u r i q in cc d.1))
       where
         P : Outcome → Type 0
-        P out = out.answer ≡ a → accepted a ≡ true → draft h u r ≡ None
-            → locked_by_other w.slot w.oldest u r ≡ false × ((rd : Reader) → h.section u ≡ Some rd → seen' rd.opened_at r ≡ (h.entries r).last)
+        P out = out.answer ≡ a → accepted a ≡ true → draft h u r ≡ None → FirstLock u r
 
         based' : (s : Section) (rd : Reader) → SectionOk seen' (base w h) u s rd → (newest w r).entry.version ≤ s.opening
             → seen' rd.opened_at r ≡ (h.entries r).last
@@ -117,20 +117,17 @@ module _ (seen' : ℕ → ℕ → Entry) where
     locks : (u r v s o : ℕ) → Owns (record { entries = h.entries; section = put h.section u (on_some (locking r (h.entries r).last.body) (h.section u)) }) v s o
         → Owns h v s o ⊎ NewDraft u r v s o
     locks u r v s o x =
-        put_case (λ y. y ≡ Some x.rd → Owns h v s o ⊎ NewDraft u r v s o) h.section u (on_some (locking r new) (h.section u)) v
-        (λ e q. (let g = on_some_some (locking r new) (h.section u) x.rd q in mine e g.0 g.1 (ap (λ y. y.opened_at) g.2 ∙ x.at) (ap (λ y. y.draft s) g.2 ∙ x.has)))
-        (λ _ q. inl (same_owns v x q)) x.is
+        put_on_some (Owns h v s o ⊎ NewDraft u r v s o) h.section u (locking r (h.entries r).last.body) v x.rd
+        (λ y e i q. mine e y i (ap (λ z. z.opened_at) q ∙ x.at) (ap (λ z. z.draft s) q ∙ x.has)) (λ q. inl (same_owns v x q)) x.is
       where
-        new : Body
-        new = (h.entries r).last.body
-
-        mine : v ≡ u → (y : Reader) → h.section u ≡ Some y → y.opened_at ≡ o → put y.draft r (drafted new (y.draft r)) s ≡ Some x.b → Owns h v s o ⊎ NewDraft u r v s o
+        mine : v ≡ u → (y : Reader) → h.section v ≡ Some y → y.opened_at ≡ o → put y.draft r (drafted (h.entries r).last.body (y.draft r)) s ≡ Some x.b → Owns h v s o ⊎ NewDraft u r v s o
         mine e y i a =
-            put_case (λ z. z ≡ Some x.b → Owns h v s o ⊎ NewDraft u r v s o) y.draft r (drafted new (y.draft r)) s
+            put_case (λ z. z ≡ Some x.b → Owns h v s o ⊎ NewDraft u r v s o) y.draft r (drafted (h.entries r).last.body (y.draft r)) s
             (λ z _. option_case (λ d. y.draft r ≡ d → Owns h v s o ⊎ NewDraft u r v s o) (y.draft r)
-            (λ _ n. inr (record { user = e; which = z; none_before = ap (λ q. draft_in q r) i ∙ n; rd = y; is = i; at = a }))
-            (λ b _ k. inl (record { rd = y; b = b; is = ap h.section e ∙ i; has = ap y.draft z ∙ k; at = a })) refl)
-            (λ _ k. inl (record { rd = y; b = x.b; is = ap h.section e ∙ i; has = k; at = a }))
+            (λ _ n. (let is : h.section u ≡ Some y = ap h.section (sym e) ∙ i in
+            inr (record { user = e; which = z; none_before = ap (λ q. draft_in q r) is ∙ n; rd = y; is = is; at = a })))
+            (λ b _ k. inl (record { rd = y; b = b; is = i; has = ap y.draft z ∙ k; at = a })) refl)
+            (λ _ k. inl (record { rd = y; b = x.b; is = i; has = k; at = a }))
 
     lock_alone : (u r : ℕ) (a : Answer) → (lock_step w u r).answer ≡ a → accepted a ≡ true
         → Alone (record { entries = h.entries; section = put h.section u (on_some (locking r (h.entries r).last.body) (h.section u)) })
@@ -141,7 +138,7 @@ module _ (seen' : ℕ → ℕ → Entry) where
               (λ n. subst (λ z. seen' o z ≡ (h.entries z).last) (sym n.which) (subst (λ z. seen' z r ≡ (h.entries r).last) n.at ((tells n).1 n.rd n.is))) (locks u r v s o x);
         }
       where
-        tells : {v s o : ℕ} → NewDraft u r v s o → locked_by_other w.slot w.oldest u r ≡ false × ((rd : Reader) → h.section u ≡ Some rd → seen' rd.opened_at r ≡ (h.entries r).last)
+        tells : {v s o : ℕ} → NewDraft u r v s o → FirstLock u r
         tells n = lock_tells u r a e t n.none_before
 
         other : (v v' s o p : ℕ) → Owns h v s o → NewDraft u r v' s p → v ≡ v'
