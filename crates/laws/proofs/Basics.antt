@@ -90,7 +90,7 @@ age_of first p h = ((p + 8 - first % 8) % 8, omega arith, omega arith)
 -- an edit changes the body alone
 pub edited_same : (u r : ℕ) (f : Body → Body) (o : ℕ) (sl : Slot) → ((edited u r f o sl).number ≡ sl.number) × ((edited u r f o sl).stage ≡ sl.stage)
 edited_same u r f o sl =
-    cond_both (eqb o u && draft_of r (Some sl)) (record { number = sl.number; body = f sl.body; stage = sl.stage }) sl
+    cond_both (eqb o u && draft_of r (Some sl)) (record sl { body = f sl.body }) sl
     (λ (x : Slot). (x.number ≡ sl.number) × (x.stage ≡ sl.stage)) (λ _. (refl, refl)) (λ _. (refl, refl))
 
 -- Bytes in a home.

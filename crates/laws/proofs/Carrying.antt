@@ -11,7 +11,7 @@ use Rattle.model.specs.declared.slot.Hold.TheVariants.{OnSlot}
 use Rattle.model.specs.Tools.{put, on_some}
 use Rattle.model.specs.Worlds.{Entry, Section, World, world, with_slots, put_slot}
 use Rattle.model.specs.Drafts.{is_draft}
-use Rattle.model.specs.History.{Reader, Entries, History, draft_in, draft, with_reader}
+use Rattle.model.specs.History.{Reader, Entries, History, draft_in, draft, with_reader, stored}
 use Rattle.laws.proofs.Basics.{eq_case, put_case, HasVersion}
 use Rattle.laws.proofs.Invariant.{Ent, Ledger, StateAt, SlotsOk, DraftsOk, SlotWith, CoverOk, KeptState, HoldOk, Base, base, SectionOk, Match, Inv, carry_sections}
 
@@ -61,7 +61,7 @@ module _ (seen : ℕ → ℕ → Entry) where
   pub keep_sections : {w : World} {h : History} → Inv seen w h → (high : ℕ) (ms : ℕ → Master) (slot : ℕ → ℕ → Option Slot) → w.highest ≤ high
       → ((u : ℕ) (s : Section) (rd : Reader) → SectionOk seen (base w h) u s rd
       → (r v : ℕ) (x : Hold) → v ≡ (seen rd.opened_at r).version → HoldOk w.master w.slot s.opening r v x → HoldOk ms slot s.opening r v x)
-      → (u : ℕ) → Match seen (record { high = high; watermark = w.watermark; entries = h.entries; master = ms; slot = slot }) u (w.section u) (h.section u)
+      → (u : ℕ) → Match seen (record (base w h) { high = high; master = ms; slot = slot }) u (w.section u) (h.section u)
   keep_sections {w} {h} inv high ms slot le f =
       carry_sections seen inv _ (λ u s rd _ ok. carry_section _ ok (omega (arith, ok.opening_low, le)) ok.watermark_low (λ r e z. z) (λ r e z. inl z) (f u s rd ok))
 
@@ -71,11 +71,19 @@ module _ (seen : ℕ → ℕ → Entry) where
   keep_slots {w} {h} inv slot f =
       keep_sections inv w.highest w.master slot (omega arith) (λ _ s _ ok r v x _ z. carry_hold w.master w.slot slot s.opening r v (f s.opening v ok.watermark_low) x z)
 
+  -- slots, drafts and sections change
+  pub new_slots : {w : World} {h : History} → Inv seen w h → (ws : ℕ → Option Section) (oldest : ℕ → ℕ) (slot : ℕ → ℕ → Option Slot) (hs : ℕ → Option Reader)
+      → SlotsOk h.entries w.master (draft (record h { section = hs })) slot → DraftsOk (draft (record h { section = hs })) slot → CoverOk h.entries w.master w.watermark slot
+      → ((u : ℕ) → Match seen (base (with_slots w slot) h) u (ws u) (hs u))
+      → Inv seen (world w.home w.highest w.tick w.watermark w.master ws oldest slot) (record h { section = hs })
+  new_slots inv ws oldest slot hs slots drafts cover sections =
+      record { ledgers = inv.ledgers; watermark_low = inv.watermark_low; masters = inv.masters; slots = slots; drafts = drafts; cover = cover; sections = sections }
+
   -- sections change and the highest stamp rises, and the drafts are the same
   pub new_sections : {w : World} {h : History} → Inv seen w h → (high : ℕ) (ws : ℕ → Option Section) (hs : ℕ → Option Reader) → w.highest ≤ high
-      → draft (record { entries = h.entries; section = hs }) ≡ draft h
-      → ((u : ℕ) → Match seen (record { high = high; watermark = w.watermark; entries = h.entries; master = w.master; slot = w.slot }) u (ws u) (hs u))
-      → Inv seen (world w.home high w.tick w.watermark w.master ws w.oldest w.slot) (record { entries = h.entries; section = hs })
+      → draft (record h { section = hs }) ≡ draft h
+      → ((u : ℕ) → Match seen (record (base w h) { high = high }) u (ws u) (hs u))
+      → Inv seen (world w.home high w.tick w.watermark w.master ws w.oldest w.slot) (record h { section = hs })
   new_sections {w} {h} inv high ws hs le same m =
       record {
         ledgers = λ r. raise high (inv.ledgers r) le;
@@ -101,6 +109,10 @@ carry_with slot slot' r v f s =
 pub carry_cover : (ents : ℕ → Entries) (ms : ℕ → Master) (W : ℕ) (slot slot' : ℕ → ℕ → Option Slot) → Shows slot slot' → CoverOk ents ms W slot → CoverOk ents ms W slot'
 carry_cover ents ms W slot slot' f c r e k = ⊎_elim (λ a. inl a) (λ b. inr (⊎_elim (λ s. inl (carry_with slot slot' r e.version f s)) (λ n. inr n) b)) (c r e k)
 
+-- the history after an accepted commit of u that answers c
+abbrev pub with_commit : History → ℕ → ℕ → History
+with_commit h u c = record { entries = λ r. stored c (draft h u r) (h.entries r); section = put h.section u None }
+
 -- of a slot's state only a draft looks at the drafts
 pub carry_state : (ents : ℕ → Entries) (ms : ℕ → Master) (drafts drafts' : ℕ → ℕ → Option Body) (o : ℕ) (sl : Slot) (st : Stage)
     → (is_draft st ≡ true → drafts o sl.number ≡ Some sl.body → drafts' o sl.number ≡ Some sl.body) → StateAt ents ms drafts o sl st → StateAt ents ms drafts' o sl st
@@ -116,7 +128,7 @@ put_slot_case P f u p s o q yes' no' =
 
 -- The draft of r of u's section has become what t makes of it.
 abbrev pub redraft : ℕ → (Option Body → Option Body) → Reader → Reader
-redraft r t s = record { opened_at = s.opened_at; draft = put s.draft r (t (s.draft r)); hold = s.hold }
+redraft r t s = record s { draft = put s.draft r (t (s.draft r)) }
 
 pub redraft_case : (P : Option Body → Type 0) (h : History) (u r : ℕ) (t : Option Body → Option Body) (rd : Reader) → h.section u ≡ Some rd → (o a : ℕ)
     → (o ≡ u → a ≡ r → P (t (draft h u r))) → (((o ≡ u) × (a ≡ r) → ⊥) → P (draft h o a))

@@ -19,7 +19,7 @@ use Rattle.model.specs.Steps.{oldest_place, collect_step}
 use Rattle.model.specs.History.{Reader, Entries, History, draft}
 use Rattle.laws.proofs.Basics.{eq_case, put_case, put_same, HasVersion, takes_within, home_written}
 use Rattle.laws.proofs.Invariant.{entry, Ent, MasterOk, Newer, StateAt, SlotOk, draft_slot, SlotWith, CoverOk, KeptState, HoldOk, base, SectionOk, Inv, Good}
-use Rattle.laws.proofs.Carrying.{raise, keep_sections, keep_slots, carry_with, put_slot_case}
+use Rattle.laws.proofs.Carrying.{new_slots, raise, keep_sections, keep_slots, carry_with, put_slot_case}
 use Rattle.laws.proofs.Cases.{collect_cases}
 use Rattle.interfaces.specs.Homes as home
 
@@ -51,16 +51,12 @@ module _ (seen : ℕ → ℕ → Entry) (w : World) (h : History) (inv : Inv see
 
     freed_inv : (first : ℕ) → Inv seen (with_oldest (with_slots w gone) u first) h
     freed_inv first =
-        record {
-          ledgers = inv.ledgers;
-          watermark_low = inv.watermark_low;
-          masters = inv.masters;
-          slots = λ o p x. put_slot_case (λ y. y ≡ Some x → SlotOk h.entries w.master (draft h) o p x) w.slot u q None o p (λ _ _ e. cc) (λ _ e. inv.slots o p x e);
-          drafts = λ o a b e. (let s = inv.drafts o a b e in
-          (s.0, stays o s.0 (draft_slot a b) s.1 (λ z. cc (st, ap (λ y. y.stage) (same_slot o s.0 (draft_slot a b) z.0 z.1 s.1)))));
-          cover = λ r e z. ⊎_elim (λ m. inl m) (λ y. ⊎_elim (λ s. at r e s (cases_eq s.o u) (cases_eq s.p q)) (λ n. inr (inr n)) y) (inv.cover r e z);
-          sections = keep_slots seen inv gone (λ s v le o p x e c. (x, stays o p x e (λ n. unheld s v le x (same_slot o p x n.0 n.1 e) c), refl, c));
-        }
+        new_slots seen inv w.section _ gone h.section
+        (λ o p x. put_slot_case (λ y. y ≡ Some x → SlotOk h.entries w.master (draft h) o p x) w.slot u q None o p (λ _ _ e. cc) (λ _ e. inv.slots o p x e))
+        (λ o a b e. (let s = inv.drafts o a b e in
+        (s.0, stays o s.0 (draft_slot a b) s.1 (λ z. cc (st, ap (λ y. y.stage) (same_slot o s.0 (draft_slot a b) z.0 z.1 s.1))))))
+        (λ r e z. ⊎_elim (λ m. inl m) (λ y. ⊎_elim (λ s. at r e s (cases_eq s.o u) (cases_eq s.p q)) (λ n. inr (inr n)) y) (inv.cover r e z))
+        (keep_slots seen inv gone (λ s v le o p x e c. (x, stays o p x e (λ n. unheld s v le x (same_slot o p x n.0 n.1 e) c), refl, c)))
       where
         behind : (r : ℕ) (e : Entry) → sl.number ≡ r → v ≡ e.version → ((w.master r).version ≡ e.version) ⊎ Newer (h.entries r) e.version w.watermark
         behind r e a b =
@@ -86,7 +82,7 @@ module _ (seen : ℕ → ℕ → Entry) (w : World) (h : History) (inv : Inv see
   module _ (v t : ℕ) (st : sl.stage ≡ Live v) (low : v ≤ w.watermark) (lt : w.highest < t)
       (home' : Meaning) (bytes : (r : ℕ) → home_bytes home' r ≡ put (home_bytes w.home) sl.number sl.body.bytes r) where
     abbrev old : Slot
-    old = record { number = sl.number; body = sl.body; stage = Retired v t }
+    old = record sl { stage = Retired v t }
 
     abbrev back : ℕ → ℕ → Option Slot
     back = put_slot w.slot u q (Some old)
@@ -177,7 +173,7 @@ module _ (seen : ℕ → ℕ → Entry) (w : World) (h : History) (inv : Inv see
       (λ sl e v t q low _. freed_inv seen w h inv u (oldest_place w u) sl e v t q low (place_of (w.oldest u) 1))
       (λ sl e v q low f next.
       subst (λ m. Inv seen (world (home.written w.home sl.number sl.body.bytes) s w.tick w.watermark m w.section w.oldest
-      (put_slot w.slot u (oldest_place w u) (Some (record { number = sl.number; body = sl.body; stage = Retired v s })))) h)
+      (put_slot w.slot u (oldest_place w u) (Some (record sl { stage = Retired v s })))) h)
       (master_below sl (record { version = v; mark = sl.body.mark }) (inv.slots u (oldest_place w u) sl e).2)
       (back_inv seen w h inv u (oldest_place w u) sl e v s q low next (home.written w.home sl.number sl.body.bytes)
       (home_written w.home sl.number sl.body.bytes (takes_within w.home sl.number f))))

@@ -15,7 +15,7 @@ use Rattle.model.specs.History.{Entries, History, draft_in, draft, with_reader, 
 use Rattle.laws.proofs.Basics.{eq_case, on_some_some, HasVersion}
 use Rattle.laws.proofs.Invariant.{entry, Ent, Ledger, Newer, StateOk, StateAt, SlotOk, SlotsOk, draft_slot, DraftsOk, SlotWith, CoverOk, KeptState, Base, base, Inv, Good, carry_sections}
 use Rattle.laws.proofs.Reading.{no_drafts_here, has_draft_is}
-use Rattle.laws.proofs.Carrying.{same_drafts, carry_hold, put_match, carry_section, new_sections, carry_with}
+use Rattle.laws.proofs.Carrying.{with_commit, same_drafts, carry_hold, put_match, carry_section, new_sections, carry_with}
 use Rattle.laws.proofs.Cases.{commit_cases}
 
 -- What a commit at c does to the entries of a record.
@@ -91,7 +91,7 @@ module _ (seen : ℕ → ℕ → Entry) (w : World) (h : History) (inv : Inv see
 
   drafts' : DraftsOk table' slot'
   drafts' o a b =
-      eq_case (λ t. draft_in (cond t None (h.section o)) a ≡ Some b → (p : ℕ) × (on_some (λ sl. record { number = sl.number; body = sl.body; stage = stage' o sl.number sl.stage }) (w.slot o p) ≡ Some (draft_slot a b))) o u
+      eq_case (λ t. draft_in (cond t None (h.section o)) a ≡ Some b → (p : ℕ) × (slot' o p ≡ Some (draft_slot a b))) o u
       (λ _ e. cc)
       (λ n e. (let s = inv.drafts o a b e in (
         s.0,
@@ -127,7 +127,7 @@ module _ (seen : ℕ → ℕ → Entry) (w : World) (h : History) (inv : Inv see
           }))
 
   commit_inv : Inv seen (with_highest (with_section (with_slots w (settle w u c)) u None) c)
-      (record { entries = λ r. stored c (draft h u r) (h.entries r); section = put h.section u None })
+      (with_commit h u c)
   commit_inv =
       record {
         ledgers = λ r. ledger_new c (draft h u r) (h.entries r) w.highest lt (inv.ledgers r);
@@ -145,12 +145,12 @@ module _ (seen : ℕ → ℕ → Entry) (w : World) (h : History) (inv : Inv see
       }
     where
       after : Base
-      after = record { high = c; watermark = w.watermark; entries = ents'; master = w.master; slot = slot' }
+      after = record (base w h) { high = c; entries = ents'; slot = slot' }
 
 module _ (seen : ℕ → ℕ → Entry) (w : World) (h : History) (inv : Inv seen w h) where
   -- a commit with no drafts closes the section
   idle_inv : (u : ℕ) → ((r : ℕ) → draft h u r ≡ None)
-      → Inv seen (with_section w u None) (record { entries = λ r. stored 0 (draft h u r) (h.entries r); section = put h.section u None })
+      → Inv seen (with_section w u None) (with_commit h u 0)
   idle_inv u none_there =
       subst (λ es. Inv seen (with_section w u None) (record { entries = es; section = put h.section u None })) (fun_ext (λ r. ap (λ d. stored 0 d (h.entries r)) (sym (none_there r))))
       (new_sections seen inv w.highest _ _ (omega arith) (same_drafts h u None (λ r. sym (none_there r))) (put_match seen (base w h) w.section h.section u None None tt inv.sections))

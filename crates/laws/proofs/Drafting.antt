@@ -17,7 +17,7 @@ use Rattle.model.specs.History.{Reader, History, draft_in, draft, with_reader, d
 use Rattle.laws.proofs.Basics.{put_case, on_some_some, edited_same, HasVersion}
 use Rattle.laws.proofs.Invariant.{StateOk, StateAt, SlotOk, SlotsOk, draft_slot, DraftsOk, KeptState, kept_version, base, Inv, Good, opened_here}
 use Rattle.laws.proofs.Reading.{newest_is, draft_here, no_draft_here}
-use Rattle.laws.proofs.Carrying.{put_match, keep_slots, new_sections, carry_cover, carry_state, put_slot_case, redraft, redraft_case, redraft_match}
+use Rattle.laws.proofs.Carrying.{new_slots, put_match, keep_slots, new_sections, carry_cover, carry_state, put_slot_case, redraft, redraft_case, redraft_match}
 use Rattle.laws.proofs.Cases.{free_here, lock_cases, put_cases, clear_cases, abort_cases}
 
 module _ (seen : ℕ → ℕ → Entry) (w : World) (h : History) (inv : Inv seen w h) (k : ℕ) where
@@ -49,21 +49,17 @@ module _ (seen : ℕ → ℕ → Entry) (w : World) (h : History) (inv : Inv see
 
     lock_new_good : Inv seen (with_slots w locked) (with_reader h u (on_some (redraft r copied) (h.section u)))
     lock_new_good =
-        record {
-          ledgers = inv.ledgers;
-          watermark_low = inv.watermark_low;
-          masters = inv.masters;
-          slots = λ o q sl. put_slot_case (λ x. x ≡ Some sl → SlotOk h.entries w.master with_copy o q sl) w.slot u p (Some new) o q
-              (λ a b e. subst (SlotOk h.entries w.master with_copy o q) (same_Some new sl e)
-              (omega (arith, a, hu), omega (arith, b, hp), hr, subst (λ y. with_copy y r ≡ Some new.body) (sym a) new_draft))
-              (λ _ e. (let g = inv.slots o q sl e in
-              (g.0, g.1, g.2, carry_state h.entries w.master (draft h) with_copy o sl sl.stage (λ _. kept_draft o sl.number sl.body) g.3)));
-          drafts = λ o a b. redraft_case (λ x. x ≡ Some b → (q : ℕ) × (locked o q ≡ Some (draft_slot a b))) h u r copied rd is o a
-              (λ y z e. (p, put_slot_case (λ x. x ≡ Some (draft_slot a b)) w.slot u p (Some new) o p (λ _ _. cc (ap copied no_draft, newest_body)) (λ n. absurd (n (y, refl)))))
-              (λ _ e. (let g = inv.drafts o a b e in (g.0, kept_slot o g.0 (draft_slot a b) g.1)));
-          cover = carry_cover h.entries w.master w.watermark w.slot locked (λ o q v sl e x. (sl, kept_slot o q sl e, refl, x)) inv.cover;
-          sections = redraft_match seen inv locked u r copied (λ s v o q sl e x. (sl, kept_slot o q sl e, refl, x));
-        }
+        new_slots seen inv w.section w.oldest locked _
+        (λ o q sl. put_slot_case (λ x. x ≡ Some sl → SlotOk h.entries w.master with_copy o q sl) w.slot u p (Some new) o q
+        (λ a b e. subst (SlotOk h.entries w.master with_copy o q) (same_Some new sl e)
+        (omega (arith, a, hu), omega (arith, b, hp), hr, subst (λ y. with_copy y r ≡ Some new.body) (sym a) new_draft))
+        (λ _ e. (let g = inv.slots o q sl e in
+        (g.0, g.1, g.2, carry_state h.entries w.master (draft h) with_copy o sl sl.stage (λ _. kept_draft o sl.number sl.body) g.3))))
+        (λ o a b. redraft_case (λ x. x ≡ Some b → (q : ℕ) × (locked o q ≡ Some (draft_slot a b))) h u r copied rd is o a
+        (λ y z e. (p, put_slot_case (λ x. x ≡ Some (draft_slot a b)) w.slot u p (Some new) o p (λ _ _. cc (ap copied no_draft, newest_body)) (λ n. absurd (n (y, refl)))))
+        (λ _ e. (let g = inv.drafts o a b e in (g.0, kept_slot o g.0 (draft_slot a b) g.1))))
+        (carry_cover h.entries w.master w.watermark w.slot locked (λ o q v sl e x. (sl, kept_slot o q sl e, refl, x)) inv.cover)
+        (redraft_match seen inv locked u r copied (λ s v o q sl e x. (sl, kept_slot o q sl e, refl, x)))
 
   pub lock_good : (c u r : ℕ) → u < 8 → Good seen w.highest c k h (Lock u r) (lock_step w u r)
   lock_good c u r hu =
@@ -87,7 +83,7 @@ module _ (seen : ℕ → ℕ → Entry) (w : World) (h : History) (inv : Inv see
 
     still_ok : (o p : ℕ) (sl : Slot) → SlotOk h.entries w.master (draft h) o p sl → SlotOk h.entries w.master with_edit o p (edited u r f o sl)
     still_ok o p sl g =
-        cond_both (eqb o u && draft_of r (Some sl)) (record { number = sl.number; body = f sl.body; stage = sl.stage }) sl (SlotOk h.entries w.master with_edit o p)
+        cond_both (eqb o u && draft_of r (Some sl)) (record sl { body = f sl.body }) sl (SlotOk h.entries w.master with_edit o p)
         (λ t. (let a = and_parts (eqb o u) (draft_of r (Some sl)) t in
         let b = and_parts (is_draft sl.stage) (eqb sl.number r) a.1 in
         (g.0, g.1, g.2, own (eqb-true o u a.0) sl.stage b.0 (eqb-true sl.number r b.1) g.3)))
@@ -106,18 +102,14 @@ module _ (seen : ℕ → ℕ → Entry) (w : World) (h : History) (inv : Inv see
 
     edit_good : Inv seen (with_slots w changed) (with_reader h u (on_some (redraft r (on_some f)) (h.section u)))
     edit_good =
-        record {
-          ledgers = inv.ledgers;
-          watermark_low = inv.watermark_low;
-          masters = inv.masters;
-          slots = λ o p sl e. (let g = on_some_some (edited u r f o) (w.slot o p) sl e in
-          subst (SlotOk h.entries w.master with_edit o p) g.2 (still_ok o p g.0 (inv.slots o p g.0 g.1)));
-          drafts = drafts';
-          cover = carry_cover h.entries w.master w.watermark w.slot changed
-              (λ o p v sl e x. (let g = edited_same u r f o sl in (edited u r f o sl, ap (on_some (edited u r f o)) e, g.0, subst (λ y. HasVersion y v) (sym g.1) x))) inv.cover;
-          sections = redraft_match seen inv changed u r (on_some f)
-              (λ s v o p sl e x. (let g = edited_same u r f o sl in (edited u r f o sl, ap (on_some (edited u r f o)) e, g.0, subst (KeptState s v) (sym g.1) x)));
-        }
+        new_slots seen inv w.section w.oldest changed _
+        (λ o p sl e. (let g = on_some_some (edited u r f o) (w.slot o p) sl e in
+        subst (SlotOk h.entries w.master with_edit o p) g.2 (still_ok o p g.0 (inv.slots o p g.0 g.1))))
+        drafts'
+        (carry_cover h.entries w.master w.watermark w.slot changed
+        (λ o p v sl e x. (let g = edited_same u r f o sl in (edited u r f o sl, ap (on_some (edited u r f o)) e, g.0, subst (λ y. HasVersion y v) (sym g.1) x))) inv.cover)
+        (redraft_match seen inv changed u r (on_some f)
+        (λ s v o p sl e x. (let g = edited_same u r f o sl in (edited u r f o sl, ap (on_some (edited u r f o)) e, g.0, subst (KeptState s v) (sym g.1) x))))
       where
         drafts' : DraftsOk with_edit changed
         drafts' o a b =
@@ -164,16 +156,10 @@ module _ (seen : ℕ → ℕ → Entry) (w : World) (h : History) (inv : Inv see
 
     abort_inv : Inv seen (with_section (with_slots w left) u None) (with_reader h u None)
     abort_inv =
-        record {
-          ledgers = inv.ledgers;
-          watermark_low = inv.watermark_low;
-          masters = inv.masters;
-          slots = slots';
-          drafts = drafts';
-          cover = carry_cover h.entries w.master w.watermark w.slot left (λ o p v sl e x. (sl, undraft o p v sl e x, refl, x)) inv.cover;
-          sections = put_match seen (base (with_slots w left) h) w.section h.section u None None tt
-              (keep_slots seen inv left (λ s v _ o p sl e x. (sl, undraft o p v sl e (kept_version s v sl.stage x), refl, x)));
-        }
+        new_slots seen inv _ w.oldest left _ slots' drafts'
+        (carry_cover h.entries w.master w.watermark w.slot left (λ o p v sl e x. (sl, undraft o p v sl e x, refl, x)) inv.cover)
+        (put_match seen (base (with_slots w left) h) w.section h.section u None None tt
+        (keep_slots seen inv left (λ s v _ o p sl e x. (sl, undraft o p v sl e (kept_version s v sl.stage x), refl, x))))
       where
         parts : (o : ℕ) (x : Option Slot) (sl : Slot) → undrafted u o x ≡ Some sl → (x ≡ Some sl) × (is_draft sl.stage ≡ true → o ≡ u → ⊥)
         parts o x sl =

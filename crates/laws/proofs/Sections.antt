@@ -15,7 +15,7 @@ use Rattle.model.specs.Worlds.{Entry, Section, World, with_highest, with_tick, w
 use Rattle.model.specs.Calls.{Open, Find, Take, Survey, Tick, done}
 use Rattle.model.specs.Versions.{place_of, opened_as, first_opened, visible}
 use Rattle.model.specs.Steps.{gives, fresh, open_step, holding, find_step, take_step, lowest_of, lowest, survey_step}
-use Rattle.model.specs.History.{nothing, version_of, Reader, History, draft_in, with_reader, held_by, finding}
+use Rattle.model.specs.History.{opening, version_of, Reader, History, draft_in, with_reader, held_by, finding}
 use Rattle.laws.proofs.Basics.{is_some_false, eq_case, option_case}
 use Rattle.laws.proofs.Invariant.{HoldOk, base, SectionOk, Match, Inv, Good, Opened, opened_here, closed_here, carry_sections}
 use Rattle.laws.proofs.Carrying.{same_drafts, put_match, carry_section, keep_sections, new_sections}
@@ -31,7 +31,7 @@ module _ (seen : ℕ → ℕ → Entry) (w : World) (h : History) (inv : Inv see
       (put_match seen (base (with_highest w c) h) w.section h.section u (Some (fresh c)) (Some rd) (mine le) (keep_sections seen inv c w.master w.slot le (λ _ _ _ _ _ _ _ _ z. z))))
     where
       rd : Reader
-      rd = record { opened_at = k; draft = λ r. None; hold = λ i. nothing }
+      rd = opening k
 
       mine : w.highest ≤ c → SectionOk seen (base (with_highest w c) h) u (fresh c) rd
       mine le =
@@ -56,7 +56,7 @@ module _ (seen : ℕ → ℕ → Entry) (w : World) (h : History) (inv : Inv see
         subst₂ (λ y z. (z ≡ (seen op.rd.opened_at y).version) × HoldOk w.master w.slot s.opening y z x) a b (sees q)
     found_hold (Some b) q r' v' e = cc
 
-    found_section : SectionOk seen (base w h) u (record { opening = s.opening; hold = put s.hold i x }) (finding i r v op.rd)
+    found_section : SectionOk seen (base w h) u (record s { hold = put s.hold i x }) (finding i r v op.rd)
     found_section =
         record {
           user = op.ok.user;
@@ -78,8 +78,8 @@ module _ (seen : ℕ → ℕ → Entry) (w : World) (h : History) (inv : Inv see
     found_good : Inv seen (holding w u s i x) (with_reader h u (on_some (finding i r v) (h.section u)))
     found_good =
         new_sections seen inv w.highest _ _ (omega arith) (same_drafts h u (on_some (finding i r v) (h.section u)) (keeps (h.section u)))
-        (put_match seen (base w h) w.section h.section u (Some (record { opening = s.opening; hold = put s.hold i x })) (on_some (finding i r v) (h.section u))
-        (subst (λ y. Match seen (base w h) u (Some (record { opening = s.opening; hold = put s.hold i x })) (on_some (finding i r v) y)) (sym op.is) found_section)
+        (put_match seen (base w h) w.section h.section u (Some (record s { hold = put s.hold i x })) (on_some (finding i r v) (h.section u))
+        (subst (λ y. Match seen (base w h) u (Some (record s { hold = put s.hold i x })) (on_some (finding i r v) y)) (sym op.is) found_section)
         inv.sections)
       where
         keeps : (q : Option Reader) (a : ℕ) → draft_in (on_some (finding i r v) q) a ≡ draft_in q a

@@ -8,13 +8,14 @@ use Rattle.model.specs.Calls.{Call, Open, Find, Lock, Put, Clear, Commit, Abort,
 use Rattle.model.specs.Versions.{newest}
 use Rattle.model.specs.Drafts.{has_draft, locked_by_other}
 use Rattle.model.specs.Steps.{Outcome, lock_step, own_step}
-use Rattle.model.specs.History.{Reader, History, answered_version, draft_in, draft, finding, drafted, locking, editing, stored, change}
+use Rattle.model.specs.History.{Reader, History, answered_version, draft_in, draft, with_reader, finding, drafted, locking, editing, stored, change}
 use Rattle.laws.specs.Laws.{NoWriteLost}
 use Rattle.laws.specs.Theorems.{OfEveryRun}
 use Rattle.laws.proofs.Basics.{is_some_false, option_case, put_case, on_some_some, put_on_some, least_none}
 use Rattle.laws.proofs.Invariant.{base, SectionOk, Inv, section_here}
 use Rattle.laws.proofs.Reading.{newest_is, draft_here, has_draft_is}
 use Rattle.laws.proofs.Answers.{own_answered}
+use Rattle.laws.proofs.Carrying.{with_commit}
 use Rattle.laws.proofs.Cases.{lock_cases}
 use Rattle.laws.proofs.Runs.{WholeRun, whole_run, get_lt, before_suc, past, seen, Kept, turn_at, apart}
 
@@ -49,7 +50,7 @@ module _ (seen' : ℕ → ℕ → Entry) where
   -- a section changed by f, which keeps the opening and makes no draft
   changed : (h : History) (v : ℕ) (f : Reader → Reader) → ((y : Reader) → (f y).opened_at ≡ y.opened_at)
       → ((y : Reader) (r : ℕ) (b : Body) → (f y).draft r ≡ Some b → (c : Body) × (y.draft r ≡ Some c))
-      → Alone h → Alone (record { entries = h.entries; section = put h.section v (on_some f (h.section v)) })
+      → Alone h → Alone (with_reader h v (on_some f (h.section v)))
   changed h v f same none_new a =
       fewer h _
       (λ u r o x. put_on_some (Owns h u r o) h.section v f u x.rd
@@ -60,7 +61,7 @@ module _ (seen' : ℕ → ℕ → Entry) where
 
   -- a section without drafts, or none, in the place of v's
   replaced : (h : History) (v : ℕ) (q : Option Reader) → ((r : ℕ) → draft_in q r ≡ None) → (u r o : ℕ)
-      → Owns (record { entries = h.entries; section = put h.section v q }) u r o → (u ≡ v → ⊥) × Owns h u r o
+      → Owns (with_reader h v q) u r o → (u ≡ v → ⊥) × Owns h u r o
   replaced h v q no' u r o x =
       put_case (λ y. y ≡ Some x.rd → (u ≡ v → ⊥) × Owns h u r o) h.section v q u
       (λ _ e. cc (no' r, ap (λ y. draft_in y r) e, x.has))
@@ -114,7 +115,7 @@ module _ (seen' : ℕ → ℕ → Entry) where
       pub is : h.section u ≡ Some rd
       pub at : rd.opened_at ≡ o
 
-    locks : (u r v s o : ℕ) → Owns (record { entries = h.entries; section = put h.section u (on_some (locking r (h.entries r).last.body) (h.section u)) }) v s o
+    locks : (u r v s o : ℕ) → Owns (with_reader h u (on_some (locking r (h.entries r).last.body) (h.section u))) v s o
         → Owns h v s o ⊎ NewDraft u r v s o
     locks u r v s o x =
         put_on_some (Owns h v s o ⊎ NewDraft u r v s o) h.section u (locking r (h.entries r).last.body) v x.rd
@@ -130,7 +131,7 @@ module _ (seen' : ℕ → ℕ → Entry) where
             (λ _ k. inl (record { rd = y; b = x.b; is = i; has = k; at = a }))
 
     lock_alone : (u r : ℕ) (a : Answer) → (lock_step w u r).answer ≡ a → accepted a ≡ true
-        → Alone (record { entries = h.entries; section = put h.section u (on_some (locking r (h.entries r).last.body) (h.section u)) })
+        → Alone (with_reader h u (on_some (locking r (h.entries r).last.body) (h.section u)))
     lock_alone u r a e t =
         record {
           one = λ v v' s o p x y. single v v' s o p (locks u r v s o x) (locks u r v' s p y);
@@ -151,20 +152,17 @@ module _ (seen' : ℕ → ℕ → Entry) where
         single v v' s o p (inr n) (inr n') = n.user ∙ sym n'.user
 
     -- a commit of u: where another has a draft u has none, so the entry stays
-    commit_alone : (u c : ℕ) → Alone (record { entries = λ r. stored c (draft h u r) (h.entries r); section = put h.section u None })
+    commit_alone : (u c : ℕ) → Alone (with_commit h u c)
     commit_alone u c =
         record {
           one = λ v v' r o p x y. alone.one v v' r o p (before' v r o x).1 (before' v' r p y).1;
           based = λ v r o x. alone.based v r o (before' v r o x).1 ∙ sym (stays v r o x);
         }
       where
-        after : History
-        after = record { entries = λ r. stored c (draft h u r) (h.entries r); section = put h.section u None }
-
-        before' : (v r o : ℕ) → Owns after v r o → (v ≡ u → ⊥) × Owns h v r o
+        before' : (v r o : ℕ) → Owns (with_commit h u c) v r o → (v ≡ u → ⊥) × Owns h v r o
         before' v r o x = replaced h u None (λ _. refl) v r o (same_owns v x x.is)
 
-        stays : (v r o : ℕ) → Owns after v r o → (stored c (draft h u r) (h.entries r)).last ≡ (h.entries r).last
+        stays : (v r o : ℕ) → Owns (with_commit h u c) v r o → (stored c (draft h u r) (h.entries r)).last ≡ (h.entries r).last
         stays v r o x =
             option_case (λ d. draft h u r ≡ d → (stored c d (h.entries r)).last ≡ (h.entries r).last) (draft h u r) (λ _ _. refl)
             (λ b _ q. (let y = owned h u r b q in absurd ((before' v r o x).0 (alone.one v u r o y.0 (before' v r o x).1 y.1)))) refl
