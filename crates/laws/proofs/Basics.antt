@@ -78,10 +78,10 @@ In x (y ∷ ys) = (x ≡ y) ⊎ In x ys
 -- Slots.
 
 -- a live or retired slot has a version
-abbrev pub HasVersion : Stage → ℕ → Type 0
-HasVersion Draft v = ⊥
-HasVersion (Live x) v = x ≡ v
-HasVersion (Retired x t) v = x ≡ v
+abbrev pub HasVersion : ℕ → Stage → Type 0
+HasVersion v Draft = ⊥
+HasVersion v (Live x) = x ≡ v
+HasVersion v (Retired x t) = x ≡ v
 
 -- each place has an age
 pub age_of : (first p : ℕ) → p < 8 → (i : ℕ) × (i < 8) × ((first + i) % 8 ≡ p)

@@ -24,15 +24,20 @@ same_drafts h u q f =
 pub raise : {es : Entries} {high : ℕ} (high' : ℕ) → Ledger es high → high ≤ high' → Ledger es high'
 raise high' l le = record { unique = l.unique; newest = l.newest; bound = omega (arith, l.bound, le) }
 
--- a slot that is kept for the version v stays so
-abbrev pub Keeps : ℕ → ℕ → (ℕ → ℕ → Option Slot) → (ℕ → ℕ → Option Slot) → Type 0
-Keeps s v slot slot' =
-    (o p : ℕ) (sl : Slot) → slot o p ≡ Some sl → KeptState s v sl.stage
-    → (x : Slot) × (slot' o p ≡ Some x) × (x.number ≡ sl.number) × KeptState s v x.stage
+-- each slot at a stage of which P holds is again in its place, of its record and at such a stage
+abbrev pub Carried : (Stage → Type 0) → (ℕ → ℕ → Option Slot) → (ℕ → ℕ → Option Slot) → Type 0
+Carried P slot slot' =
+    (o p : ℕ) (sl : Slot) → slot o p ≡ Some sl → P sl.stage → (x : Slot) × (slot' o p ≡ Some x) × (x.number ≡ sl.number) × P x.stage
 
-pub carry_hold : (ms : ℕ → Master) (slot slot' : ℕ → ℕ → Option Slot) (s r v : ℕ) → Keeps s v slot slot' → (x : Hold) → HoldOk ms slot s r v x → HoldOk ms slot' s r v x
+pub carry_hold : (ms : ℕ → Master) (slot slot' : ℕ → ℕ → Option Slot) (s r v : ℕ) → Carried (KeptState s v) slot slot' → (x : Hold) → HoldOk ms slot s r v x → HoldOk ms slot' s r v x
 carry_hold ms slot slot' s r v f (OnSlot o p) k = let g = f o p k.0 k.1 k.3 in (g.0, g.1, g.2 ∙ k.2, g.3)
 carry_hold ms slot slot' s r v f _ k = k
+
+pub carry_with : (slot slot' : ℕ → ℕ → Option Slot) (r v : ℕ) → Carried (HasVersion v) slot slot' → SlotWith slot r v → SlotWith slot' r v
+carry_with slot slot' r v f s = let g = f s.o s.p s.sl s.there s.version in record { o = s.o; p = s.p; sl = g.0; there = g.1; number = g.2 ∙ s.number; version = g.3 }
+
+pub carry_cover : (ents : ℕ → Entries) (ms : ℕ → Master) (W : ℕ) (slot slot' : ℕ → ℕ → Option Slot) → ((v : ℕ) → Carried (HasVersion v) slot slot') → CoverOk ents ms W slot → CoverOk ents ms W slot'
+carry_cover ents ms W slot slot' f c r e k = ⊎_elim (λ a. inl a) (⊎_elim (λ s. inr (inl (carry_with slot slot' r e.version (f e.version) s))) (λ n. inr (inr n))) (c r e k)
 
 module _ (seen : ℕ → ℕ → Entry) where
   pub put_match : (b : Base) (ws : ℕ → Option Section) (hs : ℕ → Option Reader) (u : ℕ) (s : Option Section) (q : Option Reader) → Match seen b u s q
@@ -40,7 +45,7 @@ module _ (seen : ℕ → ℕ → Entry) where
   put_match b ws hs u s q m f o =
       eq_case (λ t. Match seen b o (cond t s (ws o)) (cond t q (hs o))) o u (λ e. subst (λ y. Match seen b y s q) (sym e) m) (λ _. f o)
 
-  -- An open section is carried over: its entries stay, those that are new are above its opening, and so are its holds kept.
+  -- An open section is carried over: the entries stay, new ones are above its opening, and its holds are kept.
   pub carry_section : {a : Base} (b : Base) {u : ℕ} {s : Section} {rd : Reader} → SectionOk seen a u s rd → s.opening ≤ b.high → b.watermark ≤ s.opening
       → ((r : ℕ) (e : Entry) → Ent (a.entries r) e → Ent (b.entries r) e)
       → ((r : ℕ) (e : Entry) → Ent (b.entries r) e → Ent (a.entries r) e ⊎ (s.opening < e.version))
@@ -66,7 +71,7 @@ module _ (seen : ℕ → ℕ → Entry) where
       carry_sections seen inv _ (λ u s rd _ ok. carry_section _ ok (omega (arith, ok.opening_low, le)) ok.watermark_low (λ r e z. z) (λ r e z. inl z) (f u s rd ok))
 
   -- where only slots change, and each that a section holds is kept
-  pub keep_slots : {w : World} {h : History} → Inv seen w h → (slot : ℕ → ℕ → Option Slot) → ((s v : ℕ) → w.watermark ≤ s → Keeps s v w.slot slot)
+  pub keep_slots : {w : World} {h : History} → Inv seen w h → (slot : ℕ → ℕ → Option Slot) → ((s v : ℕ) → w.watermark ≤ s → Carried (KeptState s v) w.slot slot)
       → (u : ℕ) → Match seen (base (with_slots w slot) h) u (w.section u) (h.section u)
   keep_slots {w} {h} inv slot f =
       keep_sections inv w.highest w.master slot (omega arith) (λ _ s _ ok r v x _ z. carry_hold w.master w.slot slot s.opening r v (f s.opening v ok.watermark_low) x z)
@@ -94,20 +99,6 @@ module _ (seen : ℕ → ℕ → Entry) where
         cover = inv.cover;
         sections = m;
       }
-
--- a slot with a version still has it
-abbrev pub Shows : (ℕ → ℕ → Option Slot) → (ℕ → ℕ → Option Slot) → Type 0
-Shows slot slot' =
-    (o p v : ℕ) (sl : Slot) → slot o p ≡ Some sl → HasVersion sl.stage v
-    → (x : Slot) × (slot' o p ≡ Some x) × (x.number ≡ sl.number) × HasVersion x.stage v
-
-pub carry_with : (slot slot' : ℕ → ℕ → Option Slot) (r v : ℕ) → Shows slot slot' → SlotWith slot r v → SlotWith slot' r v
-carry_with slot slot' r v f s =
-    let g = f s.o s.p v s.sl s.there s.version in
-    record { o = s.o; p = s.p; sl = g.0; there = g.1; number = g.2 ∙ s.number; version = g.3 }
-
-pub carry_cover : (ents : ℕ → Entries) (ms : ℕ → Master) (W : ℕ) (slot slot' : ℕ → ℕ → Option Slot) → Shows slot slot' → CoverOk ents ms W slot → CoverOk ents ms W slot'
-carry_cover ents ms W slot slot' f c r e k = ⊎_elim (λ a. inl a) (λ b. inr (⊎_elim (λ s. inl (carry_with slot slot' r e.version f s)) (λ n. inr n) b)) (c r e k)
 
 -- the history after an accepted commit of u that answers c
 abbrev pub with_commit : History → ℕ → ℕ → History
@@ -142,7 +133,7 @@ redraft_case P h u r t rd is o a yes' no' =
 
 -- the sections' part, with other slots and u's drafts changed
 pub redraft_match : (seen : ℕ → ℕ → Entry) {w : World} {h : History} → Inv seen w h → (slot' : ℕ → ℕ → Option Slot) (u r : ℕ) (t : Option Body → Option Body)
-    → ((s v : ℕ) → Keeps s v w.slot slot')
+    → ((s v : ℕ) → Carried (KeptState s v) w.slot slot')
     → (o : ℕ) → Match seen (base (with_slots w slot') h) o (w.section o) (put h.section u (on_some (redraft r t) (h.section u)) o)
 redraft_match seen {w} {h} inv slot' u r t f o =
     put_case (λ q. Match seen (base (with_slots w slot') h) o (w.section o) q) h.section u (on_some (redraft r t) (h.section u)) o

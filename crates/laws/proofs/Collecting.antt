@@ -18,8 +18,8 @@ use Rattle.model.specs.Versions.{place_of}
 use Rattle.model.specs.Steps.{oldest_place, collect_step}
 use Rattle.model.specs.History.{Reader, Entries, History, draft}
 use Rattle.laws.proofs.Basics.{eq_case, put_case, put_same, HasVersion, takes_within, home_written}
-use Rattle.laws.proofs.Invariant.{entry, Ent, MasterOk, Newer, StateAt, SlotOk, draft_slot, SlotWith, CoverOk, KeptState, HoldOk, base, SectionOk, Inv, Good}
-use Rattle.laws.proofs.Carrying.{new_slots, raise, keep_sections, keep_slots, carry_with, put_slot_case}
+use Rattle.laws.proofs.Invariant.{entry, Ent, MasterOk, Newer, StateAt, SlotOk, draft_slot, SlotWith, Covered, CoverOk, KeptState, HoldOk, base, SectionOk, Inv, Good}
+use Rattle.laws.proofs.Carrying.{Carried, carry_hold, new_slots, raise, keep_sections, keep_slots, carry_with, put_slot_case}
 use Rattle.laws.proofs.Cases.{collect_cases}
 use Rattle.interfaces.specs.Homes as home
 
@@ -55,7 +55,7 @@ module _ (seen : ℕ → ℕ → Entry) (w : World) (h : History) (inv : Inv see
         (λ o p x. put_slot_case (λ y. y ≡ Some x → SlotOk h.entries w.master (draft h) o p x) w.slot u q None o p (λ _ _ e. cc) (λ _ e. inv.slots o p x e))
         (λ o a b e. (let s = inv.drafts o a b e in
         (s.0, stays o s.0 (draft_slot a b) s.1 (λ z. cc (st, ap (λ y. y.stage) (same_slot o s.0 (draft_slot a b) z.0 z.1 s.1))))))
-        (λ r e z. ⊎_elim (λ m. inl m) (λ y. ⊎_elim (λ s. at r e s (cases_eq s.o u) (cases_eq s.p q)) (λ n. inr (inr n)) y) (inv.cover r e z))
+        (λ r e z. ⊎_elim (λ m. inl m) (⊎_elim (λ s. at r e s (cases_eq s.o u) (cases_eq s.p q)) (λ n. inr (inr n))) (inv.cover r e z))
         (keep_slots seen inv gone (λ s v le o p x e c. (x, stays o p x e (λ n. unheld s v le x (same_slot o p x n.0 n.1 e) c), refl, c)))
       where
         behind : (r : ℕ) (e : Entry) → sl.number ≡ r → v ≡ e.version → ((w.master r).version ≡ e.version) ⊎ Newer (h.entries r) e.version w.watermark
@@ -65,16 +65,16 @@ module _ (seen : ℕ → ℕ → Entry) (w : World) (h : History) (inv : Inv see
             (λ n. inr (n.0, n.1, n.2, omega (arith, n.3, low))) was.1)
 
         other : (r : ℕ) (e : Entry) (s : SlotWith w.slot r e.version) → ((s.o ≡ u) × (s.p ≡ q) → ⊥)
-            → ((w.master r).version ≡ e.version) ⊎ (SlotWith gone r e.version ⊎ Newer (h.entries r) e.version w.watermark)
+            → Covered h.entries w.master w.watermark gone r e
         other r e s n = inr (inl (record { o = s.o; p = s.p; sl = s.sl; there = stays s.o s.p s.sl s.there n; number = s.number; version = s.version }))
 
         at : (r : ℕ) (e : Entry) (s : SlotWith w.slot r e.version) → ((s.o ≡ u) ⊎ (s.o ≡ u → ⊥)) → ((s.p ≡ q) ⊎ (s.p ≡ q → ⊥))
-            → ((w.master r).version ≡ e.version) ⊎ (SlotWith gone r e.version ⊎ Newer (h.entries r) e.version w.watermark)
+            → Covered h.entries w.master w.watermark gone r e
         at r e s (inl a) (inl b) =
             let i = same_slot s.o s.p s.sl a b s.there in
             ⊎_elim (λ m. inl m) (λ n. inr (inr n))
             (behind r e (ap (λ x. x.number) i ∙ s.number)
-            (let y : HasVersion (Retired v t) e.version = subst (λ x. HasVersion x e.version) st (subst (λ x. HasVersion x.stage e.version) (sym i) s.version) in y))
+            (let y : HasVersion e.version (Retired v t) = subst (HasVersion e.version) st (subst (λ x. HasVersion e.version x.stage) (sym i) s.version) in y))
         at r e s (inl a) (inr b) = other r e s (λ z. b z.1)
         at r e s (inr a) b = other r e s (λ z. a z.0)
 
@@ -104,9 +104,8 @@ module _ (seen : ℕ → ℕ → Entry) (w : World) (h : History) (inv : Inv see
         put_case (λ m. (w.master r).version ≤ m.version) w.master sl.number master' r
         (λ e. subst (λ x. (w.master x).version ≤ v) (sym e) (omega (arith, (inv.ledgers sl.number).newest (master_entry w sl.number) (inv.masters sl.number).is_entry, last_version))) (λ _. omega arith)
 
-    moved : (o p : ℕ) (x : Slot) (P : Stage → Type 0) → (P (Live v) → P (Retired v t)) → w.slot o p ≡ Some x → P x.stage
-        → (y : Slot) × (back o p ≡ Some y) × (y.number ≡ x.number) × P y.stage
-    moved o p x P f e k =
+    moved : (P : Stage → Type 0) → (P (Live v) → P (Retired v t)) → Carried P w.slot back
+    moved P f o p x e k =
         put_slot_case (λ z. (y : Slot) × (z ≡ Some y) × (y.number ≡ x.number) × P y.stage) w.slot u q (Some old) o p
         (λ a b. (let i = same_slot o p x a b e in (old, refl, ap (λ z. z.number) i, f (subst P st (subst (λ z. P z.stage) (sym i) k)))))
         (λ _. (x, e, refl, k))
@@ -138,9 +137,9 @@ module _ (seen : ℕ → ℕ → Entry) (w : World) (h : History) (inv : Inv see
       where
         cover' : CoverOk h.entries masters' w.watermark back
         cover' r e z =
-            ⊎_elim home (λ y. inr (⊎_elim (λ s. inl (carry_with w.slot back r e.version (λ o p x sl' q' k. moved o p sl' (λ a. HasVersion a x) (λ k. k) q' k) s)) (λ n. inr n) y)) (inv.cover r e z)
+            ⊎_elim home (⊎_elim (λ s. inr (inl (carry_with w.slot back r e.version (moved (HasVersion e.version) (λ k. k)) s))) (λ n. inr (inr n))) (inv.cover r e z)
           where
-            home : (w.master r).version ≡ e.version → ((masters' r).version ≡ e.version) ⊎ (SlotWith back r e.version ⊎ Newer (h.entries r) e.version w.watermark)
+            home : (w.master r).version ≡ e.version → Covered h.entries masters' w.watermark back r e
             home m =
                 put_case (λ x. (x.version ≡ e.version) ⊎ (SlotWith back r e.version ⊎ Newer (h.entries r) e.version w.watermark)) w.master sl.number master' r
                 (λ a. ⊎_elim (λ i. inl i) (λ n. inr (inr (subst (λ y. Newer (h.entries y) e.version w.watermark) (sym a)
@@ -150,8 +149,7 @@ module _ (seen : ℕ → ℕ → Entry) (w : World) (h : History) (inv : Inv see
         hold' : (o : ℕ) (s : Section) (rd : Reader) → SectionOk seen (base w h) o s rd
             → (r x : ℕ) (y : Hold) → x ≡ (seen rd.opened_at r).version → HoldOk w.master w.slot s.opening r x y → HoldOk masters' back s.opening r x y
         hold' o s rd ok r x Unset i k = k
-        hold' o s rd ok r x (OnSlot a b) i k =
-            let g = moved a b k.0 (KeptState s.opening x) (λ z. (z, omega (arith, ok.opening_low, lt))) k.1 k.3 in (g.0, g.1, g.2 ∙ k.2, g.3)
+        hold' o s rd ok r x (OnSlot a b) i k = carry_hold w.master w.slot back s.opening r x (moved (KeptState s.opening x) (λ z. (z, omega (arith, ok.opening_low, lt)))) (OnSlot a b) k
         hold' o s rd ok r x (OnMaster a) i k = (
           k.0,
           put_case (λ m. m.version ≡ x) w.master sl.number master' r

@@ -13,9 +13,9 @@ use Rattle.model.specs.Drafts.{has_draft, settled, settled_stage}
 use Rattle.model.specs.Steps.{settle, commit_step}
 use Rattle.model.specs.History.{Entries, History, draft_in, draft, with_reader, stored}
 use Rattle.laws.proofs.Basics.{eq_case, on_some_some, HasVersion}
-use Rattle.laws.proofs.Invariant.{entry, Ent, Ledger, Newer, StateOk, StateAt, SlotOk, SlotsOk, draft_slot, DraftsOk, SlotWith, CoverOk, KeptState, Base, base, Inv, Good, carry_sections}
+use Rattle.laws.proofs.Invariant.{entry, Ent, Ledger, Newer, StateOk, StateAt, SlotOk, SlotsOk, draft_slot, DraftsOk, Covered, CoverOk, KeptState, Base, base, Inv, Good, carry_sections}
 use Rattle.laws.proofs.Reading.{no_drafts_here, has_draft_is}
-use Rattle.laws.proofs.Carrying.{with_commit, same_drafts, carry_hold, put_match, carry_section, new_sections, carry_with}
+use Rattle.laws.proofs.Carrying.{Carried, with_commit, same_drafts, carry_hold, put_match, carry_section, new_sections, carry_with}
 use Rattle.laws.proofs.Cases.{commit_cases}
 
 -- What a commit at c does to the entries of a record.
@@ -100,21 +100,23 @@ module _ (seen : ℕ → ℕ → Entry) (w : World) (h : History) (inv : Inv see
       )))
 
   -- what no draft has, and a live slot that retires keeps, a slot keeps
-  kept' : (o r : ℕ) (P : Stage → Type 0) → (P Draft → ⊥) → ((v : ℕ) → P (Live v) → P (Retired v c)) → (st : Stage) → P st → P (stage' o r st)
-  kept' o r P no' retire Draft x = absurd (no' x)
-  kept' o r P no' retire (Live v) x = cond_both (has_draft (w.slot u) (w.oldest u) r) (Retired v c) (Live v) P (λ _. retire v x) (λ _. x)
-  kept' o r P no' retire (Retired v t) x = x
+  stage_kept : (o r : ℕ) (P : Stage → Type 0) → (P Draft → ⊥) → ((v : ℕ) → P (Live v) → P (Retired v c)) → (st : Stage) → P st → P (stage' o r st)
+  stage_kept o r P no' retire Draft x = absurd (no' x)
+  stage_kept o r P no' retire (Live v) x = cond_both (has_draft (w.slot u) (w.oldest u) r) (Retired v c) (Live v) P (λ _. retire v x) (λ _. x)
+  stage_kept o r P no' retire (Retired v t) x = x
+
+  kept' : (P : Stage → Type 0) → (P Draft → ⊥) → ((v : ℕ) → P (Live v) → P (Retired v c)) → Carried P w.slot slot'
+  kept' P no' retire o p sl e x = (became o sl, ap (on_some (became o)) e, refl, stage_kept o sl.number P no' retire sl.stage x)
 
   cover' : CoverOk ents' w.master w.watermark slot'
   cover' r e z = ⊎_elim old fresh' (ent_new c (draft h u r) (h.entries r) e z)
     where
-      old : Ent (h.entries r) e → ((w.master r).version ≡ e.version) ⊎ (SlotWith slot' r e.version ⊎ Newer (ents' r) e.version w.watermark)
+      old : Ent (h.entries r) e → Covered ents' w.master w.watermark slot' r e
       old y =
-          ⊎_elim (λ m. inl m) (λ t. inr (⊎_elim
-          (λ s. inl (carry_with w.slot slot' r e.version (λ o p v sl q x. (became o sl, ap (on_some (became o)) q, refl, kept' o sl.number (λ st. HasVersion st v) (λ y. y) (λ _ y. y) sl.stage x)) s))
-          (λ n. inr (newer_old c (draft h u r) (h.entries r) e.version w.watermark n)) t)) (inv.cover r e y)
+          ⊎_elim (λ m. inl m) (⊎_elim (λ s. inr (inl (carry_with w.slot slot' r e.version (kept' (HasVersion e.version) (λ x. x) (λ _ x. x)) s)))
+          (λ n. inr (inr (newer_old c (draft h u r) (h.entries r) e.version w.watermark n)))) (inv.cover r e y)
 
-      fresh' : (b : Body) × (draft h u r ≡ Some b) × (e ≡ entry c b) → ((w.master r).version ≡ e.version) ⊎ (SlotWith slot' r e.version ⊎ Newer (ents' r) e.version w.watermark)
+      fresh' : (b : Body) × (draft h u r ≡ Some b) × (e ≡ entry c b) → Covered ents' w.master w.watermark slot' r e
       fresh' y =
           let s = inv.drafts u r y.0 y.1 in
           inr (inl (record {
@@ -123,7 +125,7 @@ module _ (seen : ℕ → ℕ → Entry) (w : World) (h : History) (inv : Inv see
             sl = became u (draft_slot r y.0);
             there = ap (on_some (became u)) s.1;
             number = refl;
-            version = eq_case (λ t. HasVersion (cond t (Live c) Draft) e.version) u u (λ _. ap (λ x. x.version) (sym y.2)) (λ n. absurd (n refl));
+            version = eq_case (λ t. HasVersion e.version (cond t (Live c) Draft)) u u (λ _. ap (λ x. x.version) (sym y.2)) (λ n. absurd (n refl));
           }))
 
   commit_inv : Inv seen (with_highest (with_section (with_slots w (settle w u c)) u None) c)
@@ -140,8 +142,7 @@ module _ (seen : ℕ → ℕ → Entry) (w : World) (h : History) (inv : Inv see
             carry_section seen after ok (omega (arith, ok.opening_low, lt)) ok.watermark_low
             (λ r e z. ent_old c (draft h u r) (h.entries r) e z)
             (λ r e z. ⊎_elim (λ a. inl a) (λ y. inr (subst (λ x. s.opening < x.version) (sym y.2) (omega (arith, ok.opening_low, lt)))) (ent_new c (draft h u r) (h.entries r) e z))
-            (λ r v x _ z. carry_hold w.master w.slot slot' s.opening r v
-            (λ o p sl q y. (became o sl, ap (on_some (became o)) q, refl, kept' o sl.number (KeptState s.opening v) (λ z. z) (λ _ z. (z, omega (arith, ok.opening_low, lt))) sl.stage y)) x z)));
+            (λ r v x _ z. carry_hold w.master w.slot slot' s.opening r v (kept' (KeptState s.opening v) (λ y. y) (λ _ y. (y, omega (arith, ok.opening_low, lt)))) x z)));
       }
     where
       after : Base

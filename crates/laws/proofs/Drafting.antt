@@ -15,9 +15,9 @@ use Rattle.model.specs.Drafts.{is_draft, any_draft, draft_of, edited, undrafted}
 use Rattle.model.specs.Steps.{lock_step, put_step, clear_step, abort_step}
 use Rattle.model.specs.History.{Reader, History, draft_in, draft, with_reader, drafted}
 use Rattle.laws.proofs.Basics.{put_case, on_some_some, edited_same, HasVersion}
-use Rattle.laws.proofs.Invariant.{StateOk, StateAt, SlotOk, SlotsOk, draft_slot, DraftsOk, KeptState, kept_version, base, Inv, Good, opened_here}
+use Rattle.laws.proofs.Invariant.{StateOk, StateAt, SlotOk, SlotsOk, draft_slot, DraftsOk, KeptState, base, Inv, Good, opened_here}
 use Rattle.laws.proofs.Reading.{newest_is, draft_here, no_draft_here}
-use Rattle.laws.proofs.Carrying.{new_slots, put_match, keep_slots, new_sections, carry_cover, carry_state, put_slot_case, redraft, redraft_case, redraft_match}
+use Rattle.laws.proofs.Carrying.{Carried, new_slots, put_match, keep_slots, new_sections, carry_cover, carry_state, put_slot_case, redraft, redraft_case, redraft_match}
 use Rattle.laws.proofs.Cases.{free_here, lock_cases, put_cases, clear_cases, abort_cases}
 
 module _ (seen : ℕ → ℕ → Entry) (w : World) (h : History) (inv : Inv seen w h) (k : ℕ) where
@@ -37,6 +37,9 @@ module _ (seen : ℕ → ℕ → Entry) (w : World) (h : History) (inv : Inv see
 
     kept_slot : (o q : ℕ) (sl : Slot) → w.slot o q ≡ Some sl → locked o q ≡ Some sl
     kept_slot o q sl e = put_slot_case (λ x. x ≡ Some sl) w.slot u p (Some new) o q (λ a b. cc) (λ _. e)
+
+    kept : (P : Stage → Type 0) → Carried P w.slot locked
+    kept P o q sl e x = (sl, kept_slot o q sl e, refl, x)
 
     kept_draft : (o a : ℕ) (b : Body) → draft h o a ≡ Some b → with_copy o a ≡ Some b
     kept_draft o a b e = redraft_case (λ x. x ≡ Some b) h u r copied rd is o a (λ y z. cc) (λ _. e)
@@ -58,8 +61,8 @@ module _ (seen : ℕ → ℕ → Entry) (w : World) (h : History) (inv : Inv see
         (λ o a b. redraft_case (λ x. x ≡ Some b → (q : ℕ) × (locked o q ≡ Some (draft_slot a b))) h u r copied rd is o a
         (λ y z e. (p, put_slot_case (λ x. x ≡ Some (draft_slot a b)) w.slot u p (Some new) o p (λ _ _. cc (ap copied no_draft, newest_body)) (λ n. absurd (n (y, refl)))))
         (λ _ e. (let g = inv.drafts o a b e in (g.0, kept_slot o g.0 (draft_slot a b) g.1))))
-        (carry_cover h.entries w.master w.watermark w.slot locked (λ o q v sl e x. (sl, kept_slot o q sl e, refl, x)) inv.cover)
-        (redraft_match seen inv locked u r copied (λ s v o q sl e x. (sl, kept_slot o q sl e, refl, x)))
+        (carry_cover h.entries w.master w.watermark w.slot locked (λ v. kept (HasVersion v)) inv.cover)
+        (redraft_match seen inv locked u r copied (λ s v. kept (KeptState s v)))
 
   pub lock_good : (c u r : ℕ) → u < 8 → Good seen w.highest c k h (Lock u r) (lock_step w u r)
   lock_good c u r hu =
@@ -87,10 +90,15 @@ module _ (seen : ℕ → ℕ → Entry) (w : World) (h : History) (inv : Inv see
         (λ t. (let a = and_parts (eqb o u) (draft_of r (Some sl)) t in
         let b = and_parts (is_draft sl.stage) (eqb sl.number r) a.1 in
         (g.0, g.1, g.2, own (eqb-true o u a.0) sl.stage b.0 (eqb-true sl.number r b.1) g.3)))
-        (λ t. (g.0, g.1, g.2, carry_state h.entries w.master (draft h) with_edit o sl sl.stage
-        (λ d e. redraft_case (λ x. x ≡ Some sl.body) h u r (on_some f) rd is o sl.number
-        (λ y z. cc (and_from (eqb o u) (draft_of r (Some sl)) (eq-eqb o u y) (and_from (is_draft sl.stage) (eqb sl.number r) d (eq-eqb sl.number r z))))
-        (λ _. e)) g.3))
+        (λ t. (
+          g.0,
+          g.1,
+          g.2,
+          carry_state h.entries w.master (draft h) with_edit o sl sl.stage
+              (λ d e. redraft_case (λ x. x ≡ Some sl.body) h u r (on_some f) rd is o sl.number
+              (λ y z. cc (and_from (eqb o u) (draft_of r (Some sl)) (eq-eqb o u y) (and_from (is_draft sl.stage) (eqb sl.number r) d (eq-eqb sl.number r z))))
+              (λ _. e)) g.3,
+        ))
       where
         own : o ≡ u → (st : Stage) → is_draft st ≡ true → sl.number ≡ r → StateAt h.entries w.master (draft h) o sl st
             → StateOk (h.entries sl.number) (w.master sl.number).version (with_edit o sl.number) (f sl.body) st
@@ -100,16 +108,17 @@ module _ (seen : ℕ → ℕ → Entry) (w : World) (h : History) (inv : Inv see
         own y (Live v) d z e = cc
         own y (Retired v t) d z e = cc
 
+    carried : (P : Stage → Type 0) → Carried P w.slot changed
+    carried P o p sl e x = let g = edited_same u r f o sl in (edited u r f o sl, ap (on_some (edited u r f o)) e, g.0, subst P (sym g.1) x)
+
     edit_good : Inv seen (with_slots w changed) (with_reader h u (on_some (redraft r (on_some f)) (h.section u)))
     edit_good =
         new_slots seen inv w.section w.oldest changed _
         (λ o p sl e. (let g = on_some_some (edited u r f o) (w.slot o p) sl e in
         subst (SlotOk h.entries w.master with_edit o p) g.2 (still_ok o p g.0 (inv.slots o p g.0 g.1))))
         drafts'
-        (carry_cover h.entries w.master w.watermark w.slot changed
-        (λ o p v sl e x. (let g = edited_same u r f o sl in (edited u r f o sl, ap (on_some (edited u r f o)) e, g.0, subst (λ y. HasVersion y v) (sym g.1) x))) inv.cover)
-        (redraft_match seen inv changed u r (on_some f)
-        (λ s v o p sl e x. (let g = edited_same u r f o sl in (edited u r f o sl, ap (on_some (edited u r f o)) e, g.0, subst (KeptState s v) (sym g.1) x))))
+        (carry_cover h.entries w.master w.watermark w.slot changed (λ v. carried (HasVersion v)) inv.cover)
+        (redraft_match seen inv changed u r (on_some f) (λ s v. carried (KeptState s v)))
       where
         drafts' : DraftsOk with_edit changed
         drafts' o a b =
@@ -145,21 +154,25 @@ module _ (seen : ℕ → ℕ → Entry) (w : World) (h : History) (inv : Inv see
     abbrev without : ℕ → ℕ → Option Body
     without = draft (with_reader h u None)
 
-    undraft : (o p v : ℕ) (sl : Slot) → w.slot o p ≡ Some sl → HasVersion sl.stage v → left o p ≡ Some sl
-    undraft o p v sl e x =
-        subst (λ y. undrafted u o y ≡ Some sl) (sym e) (cond_both (eqb o u && is_draft sl.stage) None (Some sl) (λ y. y ≡ Some sl)
-        (λ t. cc (no_draft_version sl.stage v x, (and_parts (eqb o u) (is_draft sl.stage) t).1)) (λ _. refl))
+    kept_in : (P : Stage → Type 0) → (P Draft → ⊥) → Carried P w.slot left
+    kept_in P no' o p sl e x = (
+      sl,
+      subst (λ y. undrafted u o y ≡ Some sl) (sym e) (cond_both (eqb o u && is_draft sl.stage) None (Some sl) (λ y. y ≡ Some sl)
+          (λ t. cc (no_draft sl.stage x, (and_parts (eqb o u) (is_draft sl.stage) t).1)) (λ _. refl)),
+      refl,
+      x,
+    )
       where
-        no_draft_version : (st : Stage) (v : ℕ) → HasVersion st v → is_draft st ≡ false
-        no_draft_version Draft v x = absurd x
-        no_draft_version _ v x = refl
+        no_draft : (st : Stage) → P st → is_draft st ≡ false
+        no_draft Draft x = absurd (no' x)
+        no_draft _ x = refl
 
     abort_inv : Inv seen (with_section (with_slots w left) u None) (with_reader h u None)
     abort_inv =
         new_slots seen inv _ w.oldest left _ slots' drafts'
-        (carry_cover h.entries w.master w.watermark w.slot left (λ o p v sl e x. (sl, undraft o p v sl e x, refl, x)) inv.cover)
+        (carry_cover h.entries w.master w.watermark w.slot left (λ v. kept_in (HasVersion v) (λ x. x)) inv.cover)
         (put_match seen (base (with_slots w left) h) w.section h.section u None None tt
-        (keep_slots seen inv left (λ s v _ o p sl e x. (sl, undraft o p v sl e (kept_version s v sl.stage x), refl, x))))
+        (keep_slots seen inv left (λ s v _. kept_in (KeptState s v) (λ x. x))))
       where
         parts : (o : ℕ) (x : Option Slot) (sl : Slot) → undrafted u o x ≡ Some sl → (x ≡ Some sl) × (is_draft sl.stage ≡ true → o ≡ u → ⊥)
         parts o x sl =

@@ -67,13 +67,14 @@ pub record SlotWith (slot : ℕ → ℕ → Option Slot) (r v : ℕ) : Type 0 wh
   pub sl : Slot
   pub there : slot o p ≡ Some sl
   pub number : sl.number ≡ r
-  pub version : HasVersion sl.stage v
+  pub version : HasVersion v sl.stage
 
 -- Each entry is the master's, or in a slot, or a newer one is at most the watermark.
+abbrev pub Covered : (ℕ → Entries) → (ℕ → Master) → ℕ → (ℕ → ℕ → Option Slot) → ℕ → Entry → Type 0
+Covered ents ms W slot r e = ((ms r).version ≡ e.version) ⊎ (SlotWith slot r e.version ⊎ Newer (ents r) e.version W)
+
 abbrev pub CoverOk : (ℕ → Entries) → (ℕ → Master) → ℕ → (ℕ → ℕ → Option Slot) → Type 0
-CoverOk ents ms W slot =
-    (r : ℕ) (e : Entry) → Ent (ents r) e
-    → ((ms r).version ≡ e.version) ⊎ (SlotWith slot r e.version ⊎ Newer (ents r) e.version W)
+CoverOk ents ms W slot = (r : ℕ) (e : Entry) → Ent (ents r) e → Covered ents ms W slot r e
 
 -- a slot that a section opened at the stamp s holds for the version v: live, or retired after s
 abbrev pub KeptState : ℕ → ℕ → Stage → Type 0
@@ -81,7 +82,7 @@ KeptState s v Draft = ⊥
 KeptState s v (Live x) = x ≡ v
 KeptState s v (Retired x t) = (x ≡ v) × (s < t)
 
-pub kept_version : (s v : ℕ) (st : Stage) → KeptState s v st → HasVersion st v
+pub kept_version : (s v : ℕ) (st : Stage) → KeptState s v st → HasVersion v st
 kept_version s v (Retired x t) k = k.0
 kept_version s v _ k = k
 

@@ -26,9 +26,13 @@ use Rattle.laws.proofs.Carrying.{put_slot_case}
 use Rattle.laws.proofs.Answers.{own_answered}
 use Rattle.laws.proofs.Runs.{WholeRun, whole_run, behind, past, seen, Kept, turn_at}
 
+-- a hold of u is on a draft of r in u's log
+abbrev pub OnDraft : (ℕ → Option Slot) → ℕ → ℕ → Hold → Type 0
+OnDraft log u r x = (p : ℕ) × (b : Body) × (x ≡ OnSlot u p) × (log p ≡ Some (draft_slot r b))
+
 -- of u's log, with the holds of its section in the store and in the history
 abbrev pub Own : (ℕ → Option Slot) → ℕ → (ℕ → Hold) → (ℕ → Held) → Type 0
-Own log u hold held = (i r : ℕ) → held i ≡ own_draft r → (p : ℕ) × (b : Body) × (hold i ≡ OnSlot u p) × (log p ≡ Some (draft_slot r b))
+Own log u hold held = (i r : ℕ) → held i ≡ own_draft r → OnDraft log u r (hold i)
 
 -- of all sections, in the store and in the history
 abbrev pub Owned : (ℕ → Option Section) → (ℕ → Option Reader) → (ℕ → ℕ → Option Slot) → Type 0
@@ -78,14 +82,14 @@ module _ (seen : ℕ → ℕ → Entry) (w : World) (h : History) (inv : Inv see
 
   -- a find: the hold that it sets
   finding_owns : (u i r : ℕ) (s : Section) → w.section u ≡ Some s → (x : Hold) (v : ℕ)
-      → ((rd : Reader) → h.section u ≡ Some rd → (a : ℕ) → held_by r v (rd.draft r) ≡ own_draft a → (p : ℕ) × (b : Body) × (x ≡ OnSlot u p) × (w.slot u p ≡ Some (draft_slot a b)))
+      → ((rd : Reader) → h.section u ≡ Some rd → (a : ℕ) → held_by r v (rd.draft r) ≡ own_draft a → OnDraft (w.slot u) u a x)
       → OwnHolds (holding w u s i x) (with_reader h u (on_some (finding i r v) (h.section u)))
   finding_owns u i r s e x v f =
       put_owned w.section h.section w.slot w.slot u _ _
       (λ s' rd p q j a z. (let g = on_some_some (finding i r v) (h.section u) rd q in
       let y : put g.0.hold i (held_by r v (g.0.draft r)) j ≡ own_draft a = ap (λ y. y.hold j) g.2 ∙ z in
-      subst (λ y. (p : ℕ) × (b : Body) × (y.hold j ≡ OnSlot u p) × (w.slot u p ≡ Some (draft_slot a b))) (same_Some _ s' p)
-      (eq_case (λ t. cond t (held_by r v (g.0.draft r)) (g.0.hold j) ≡ own_draft a → (p : ℕ) × (b : Body) × (cond t x (s.hold j) ≡ OnSlot u p) × (w.slot u p ≡ Some (draft_slot a b))) j i
+      subst (λ y. OnDraft (w.slot u) u a (y.hold j)) (same_Some _ s' p)
+      (eq_case (λ t. cond t (held_by r v (g.0.draft r)) (g.0.hold j) ≡ own_draft a → OnDraft (w.slot u) u a (cond t x (s.hold j))) j i
       (λ _ m. f g.0 g.1 a m) (λ _ m. own u s g.0 e g.1 j a m) y)))
       (λ v _ p r b e. (b, e)) own
 

@@ -27,10 +27,10 @@ draft_is r (Some sl) e =
 
 module _ (seen : ℕ → ℕ → Entry) (w : World) (h : History) (inv : Inv seen w h) where
   -- a live or retired slot is an entry
-  pub slot_entry : (o p : ℕ) (sl : Slot) (v : ℕ) → w.slot o p ≡ Some sl → HasVersion sl.stage v → Ent (h.entries sl.number) (entry v sl.body)
+  pub slot_entry : (o p : ℕ) (sl : Slot) (v : ℕ) → w.slot o p ≡ Some sl → HasVersion v sl.stage → Ent (h.entries sl.number) (entry v sl.body)
   slot_entry o p sl v e hv = go sl.stage (inv.slots o p sl e).3 hv
     where
-      go : (st : Stage) → StateAt h.entries w.master (draft h) o sl st → HasVersion st v → Ent (h.entries sl.number) (entry v sl.body)
+      go : (st : Stage) → StateAt h.entries w.master (draft h) o sl st → HasVersion v st → Ent (h.entries sl.number) (entry v sl.body)
       go Draft k q = absurd q
       go (Live x) k q = inl (ap (λ y. entry y sl.body) (sym q) ∙ sym k)
       go (Retired x t) k q = subst (λ y. Ent (h.entries sl.number) (entry y sl.body)) q k.0
@@ -39,8 +39,8 @@ module _ (seen : ℕ → ℕ → Entry) (w : World) (h : History) (inv : Inv see
   seen_entry : (r : ℕ) (limit : Option ℕ) (c : Seen) → Highest w r limit c → Ent (h.entries r) c.entry
   seen_entry r limit c f =
       ⊎_elim (λ q. subst (λ x. Ent (h.entries r) x.entry) (sym q) (inv.masters r).is_entry)
-      (λ i. subst (λ q. Ent (h.entries q) c.entry) i.number
-      (subst (λ b. Ent (h.entries i.sl.number) (entry c.entry.version b)) (sym i.body) (slot_entry i.o i.p i.sl c.entry.version i.there i.version))) f.one
+      (λ i. subst (λ q. Ent (h.entries q) c.entry) i.at.number
+      (subst (λ b. Ent (h.entries i.at.sl.number) (entry c.entry.version b)) (sym i.body) (slot_entry i.at.o i.at.p i.at.sl c.entry.version i.at.there i.at.version))) f.one
 
   bounded : (o p : ℕ) (sl : Slot) → w.slot o p ≡ Some sl → (o < 8) × (p < 8)
   bounded o p sl e = ((inv.slots o p sl e).0, (inv.slots o p sl e).1)
@@ -110,7 +110,7 @@ module _ (seen : ℕ → ℕ → Entry) (w : World) (h : History) (inv : Inv see
         c = visible w s.opening r
 
         kept : (o : ℕ) (sl : Slot) → sl.number ≡ r → (w.master r).version < c.entry.version → (st : Stage)
-            → StateAt h.entries w.master (draft h) o sl st → HasVersion st c.entry.version → KeptState s.opening c.entry.version st
+            → StateAt h.entries w.master (draft h) o sl st → HasVersion c.entry.version st → KeptState s.opening c.entry.version st
         kept o sl of lt Draft k q = absurd q
         kept o sl of lt (Live x) k q = q
         kept o sl of lt (Retired x t) k q = (
@@ -123,7 +123,7 @@ module _ (seen : ℕ → ℕ → Entry) (w : World) (h : History) (inv : Inv see
         other : InSlot w r (Some s.opening) c → HoldOk w.master w.slot s.opening r c.entry.version c.hold
         other i =
             subst (HoldOk w.master w.slot s.opening r c.entry.version) (sym i.hold)
-            (i.sl, i.there, i.number, kept i.o i.sl i.number i.over i.sl.stage (inv.slots i.o i.p i.sl i.there).3 i.version)
+            (i.at.sl, i.at.there, i.at.number, kept i.at.o i.at.sl i.at.number i.over i.at.sl.stage (inv.slots i.at.o i.at.p i.at.sl i.at.there).3 i.at.version)
 
   -- Drafts.
 

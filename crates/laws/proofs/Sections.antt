@@ -153,7 +153,7 @@ module _ (seen : ℕ → ℕ → Entry) (w : World) (h : History) (inv : Inv see
         masters = λ r. record { is_entry = (inv.masters r).is_entry; low = omega (arith, (inv.masters r).low, up) };
         slots = inv.slots;
         drafts = inv.drafts;
-        cover = λ r e z. ⊎_elim (λ a. inl a) (λ b. inr (⊎_elim (λ x. inl x) (λ n. inr (n.0, n.1, n.2, omega (arith, n.3, up))) b)) (inv.cover r e z);
+        cover = λ r e z. ⊎_elim (λ a. inl a) (⊎_elim (λ x. inr (inl x)) (λ n. inr (inr (n.0, n.1, n.2, omega (arith, n.3, up))))) (inv.cover r e z);
         sections = carry_sections seen inv (base (with_watermark w (lowest w)) h) (λ u s rd e ok.
             carry_section seen _ ok ok.opening_low (lowest_below w u s ok.user e) (λ r e z. z) (λ r e z. inl z) (λ r v y _ z. z));
       }

@@ -27,14 +27,9 @@ of_master w r = record { hold = OnMaster r; entry = master_entry w r }
 
 -- c is the version of r in a slot, and above the master's
 pub record InSlot (w : World) (r : ℕ) (limit : Option ℕ) (c : Seen) : Type 0 where
-  pub o : ℕ
-  pub p : ℕ
-  pub sl : Slot
-  pub there : w.slot o p ≡ Some sl
-  pub number : sl.number ≡ r
-  pub version : HasVersion sl.stage c.entry.version
-  pub hold : c.hold ≡ OnSlot o p
-  pub body : c.entry.body ≡ sl.body
+  pub at : SlotWith w.slot r c.entry.version
+  pub hold : c.hold ≡ OnSlot at.o at.p
+  pub body : c.entry.body ≡ at.sl.body
   pub low : Within limit c.entry.version
   pub over : (w.master r).version < c.entry.version
 
@@ -58,7 +53,7 @@ record ShowsSlot (r : ℕ) (limit : Option ℕ) (p : Place) (o : Option Slot) (x
   sl : Slot
   there : o ≡ Some sl
   number : sl.number ≡ r
-  version : HasVersion sl.stage x.version
+  version : HasVersion x.version sl.stage
   low : Within limit x.version
   place : x.place ≡ p
 
@@ -68,22 +63,22 @@ shows r limit p (Some sl) x e₀ =
     cond_both (eqb sl.number r) (stage_shows limit p sl.stage) None (λ o. o ≡ Some x → ShowsSlot r limit p (Some sl) x)
     (λ t e. at_stage sl.stage refl (eqb-true sl.number r t) e) (λ _ e. cc) e₀
   where
-    at_version : (v : ℕ) → HasVersion sl.stage v → sl.number ≡ r → if_within limit v p ≡ Some x → ShowsSlot r limit p (Some sl) x
+    at_version : (v : ℕ) → HasVersion v sl.stage → sl.number ≡ r → if_within limit v p ≡ Some x → ShowsSlot r limit p (Some sl) x
     at_version v has f e =
         let c = cond_some (within limit v) (record { version = v; place = p }) x e in
         let same : v ≡ x.version = ap (λ (y : Candidate). y.version) c.1 in
-        record { sl = sl; there = refl; number = f; version = subst (HasVersion sl.stage) same has; low = subst (Within limit) same (within_low limit v c.0); place = sym (ap (λ (y : Candidate). y.place) c.1) }
+        record { sl = sl; there = refl; number = f; version = subst (λ y. HasVersion y sl.stage) same has; low = subst (Within limit) same (within_low limit v c.0); place = sym (ap (λ (y : Candidate). y.place) c.1) }
 
     at_stage : (st : Stage) → sl.stage ≡ st → sl.number ≡ r → stage_shows limit p st ≡ Some x → ShowsSlot r limit p (Some sl) x
     at_stage Draft q f e = cc
-    at_stage (Live v) q f e = at_version v (subst (λ y. HasVersion y v) (sym q) refl) f e
-    at_stage (Retired v t) q f e = at_version v (subst (λ y. HasVersion y v) (sym q) refl) f e
+    at_stage (Live v) q f e = at_version v (subst (HasVersion v) (sym q) refl) f e
+    at_stage (Retired v t) q f e = at_version v (subst (HasVersion v) (sym q) refl) f e
 
-shown_is : (r : ℕ) (limit : Option ℕ) (p : Place) (sl : Slot) (v : ℕ) → sl.number ≡ r → HasVersion sl.stage v → Within limit v
+shown_is : (r : ℕ) (limit : Option ℕ) (p : Place) (sl : Slot) (v : ℕ) → sl.number ≡ r → HasVersion v sl.stage → Within limit v
     → slot_shows r limit p (Some sl) ≡ Some (record { version = v; place = p })
 shown_is r limit p sl v f hv le = rw (eq-eqb sl.number r f) (go sl.stage hv)
   where
-    go : (st : Stage) → HasVersion st v → stage_shows limit p st ≡ Some (record { version = v; place = p })
+    go : (st : Stage) → HasVersion v st → stage_shows limit p st ≡ Some (record { version = v; place = p })
     go Draft h = absurd h
     go (Live x) h = rw (h, low_within limit v le) refl
     go (Retired x t) h = rw (h, low_within limit v le) refl
@@ -149,21 +144,14 @@ module _ (w : World) (r : ℕ) (limit : Option ℕ) (master_low : Within limit (
 
     at_slot : (k : ℕ) → ShowsSlot r limit (place.Slot (k / 8) (k % 8)) (w.slot (k / 8) (place_of (w.oldest (k / 8)) (k % 8))) x → Highest w r limit (seen_as w r (Some x))
     at_slot k sh =
-        let o = k / 8 in
-        let p = place_of (w.oldest o) (k % 8) in
         subst (λ y. Highest w r limit (seen_at w r x.version y)) (sym sh.place)
         (record {
           one = inr (record {
-            o = o;
-            p = p;
-            sl = sh.sl;
-            there = sh.there;
-            number = sh.number;
-            version = sh.version;
+            at = record { o = k / 8; p = place_of (w.oldest (k / 8)) (k % 8); sl = sh.sl; there = sh.there; number = sh.number; version = sh.version };
             hold = refl;
             body = ap body_in sh.there;
             low = sh.low;
-            over = slot_above o (k % 8) sh.place;
+            over = slot_above (k / 8) (k % 8) sh.place;
           });
           over_master = above_master;
           over_slots = above_slots;

@@ -100,8 +100,10 @@ module _ (seen' : ℕ → ℕ → Entry) where
     not_other : (u r : ℕ) → locked_by_other w.slot w.oldest u r ≡ false → (v o : ℕ) → v < 8 → Owns h v r o → v ≡ u
     not_other u r e v o hv x =
         ⊎_elim (λ q. q) (λ n.
-        cc (and_from (not (eqb v u)) (has_draft (w.slot v) (w.oldest v) r) (not_from_false (eqb v u) (ne_eqb v u n)) (has_draft_is seen' w h inv v r ∙ ap is_some (ap (λ y. draft_in y r) x.is ∙ x.has)),
-        least_none 8 (λ y. not (eqb y u) && has_draft (w.slot y) (w.oldest y) r) (is_some_false (least 8 (λ y. not (eqb y u) && has_draft (w.slot y) (w.oldest y) r)) e) v hv)) (cases_eq v u)
+        cc (
+          and_from (not (eqb v u)) (has_draft (w.slot v) (w.oldest v) r) (not_from_false (eqb v u) (ne_eqb v u n)) (has_draft_is seen' w h inv v r ∙ ap is_some (ap (λ y. draft_in y r) x.is ∙ x.has)),
+          least_none 8 (λ y. not (eqb y u) && has_draft (w.slot y) (w.oldest y) r) (is_some_false (least 8 (λ y. not (eqb y u) && has_draft (w.slot y) (w.oldest y) r)) e) v hv,
+        )) (cases_eq v u)
 
     user_fits : (u r o : ℕ) → Owns h u r o → u < 8
     user_fits u r o x = let k = inv.drafts u r x.b (ap (λ y. draft_in y r) x.is ∙ x.has) in (inv.slots u k.0 _ k.1).0
