@@ -58,7 +58,7 @@ least_is zero t = λ i h. absurd (let f : ⊥ = omega arith in f)
 least_is (suc n) t = go (least n t) (least_is n t)
   where
     go : (o : Option ℕ) → Least n t o → Least (suc n) t (or_else o (cond (t n) (Some n) None))
-    go (Some j) f = (omega (arith, f.0), f.1, f.2)
+    go (Some j) f = (omega arith, f.1, f.2)
     go None f =
         cond_both (t n) (Some n) None (Least (suc n) t) (λ e. (omega arith, e, f))
         (λ e i h. ⊎_elim (λ z. subst (λ k. t k ≡ false) (sym z) e) (λ z. f i (omega arith)) (cases_eq i n))

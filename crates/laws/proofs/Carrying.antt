@@ -22,7 +22,7 @@ same_drafts h u q f =
     (λ e. subst (λ y. draft_in q r ≡ draft_in (h.section y) r) (sym e) (f r)) (λ _. refl)))
 
 pub raise : {es : Entries} {high : ℕ} (high' : ℕ) → Ledger es high → high ≤ high' → Ledger es high'
-raise high' l le = record { unique = l.unique; newest = l.newest; bound = omega (arith, l.bound, le) }
+raise high' l le = record { unique = l.unique; newest = l.newest; bound = omega arith }
 
 -- each slot at a stage of which P holds is again in its place, of its record and at such a stage
 abbrev pub Carried : (Stage → Type 0) → (ℕ → ℕ → Option Slot) → (ℕ → ℕ → Option Slot) → Type 0
@@ -68,7 +68,7 @@ module _ (seen : ℕ → ℕ → Entry) where
       → (r v : ℕ) (x : Hold) → v ≡ (seen rd.opened_at r).version → HoldOk w.master w.slot s.opening r v x → HoldOk ms slot s.opening r v x)
       → (u : ℕ) → Match seen (record (base w h) { high = high; master = ms; slot = slot }) u (w.section u) (h.section u)
   keep_sections {w} {h} inv high ms slot le f =
-      carry_sections seen inv _ (λ u s rd _ ok. carry_section _ ok (omega (arith, ok.opening_low, le)) ok.watermark_low (λ r e z. z) (λ r e z. inl z) (f u s rd ok))
+      carry_sections seen inv _ (λ u s rd _ ok. carry_section _ ok (omega arith) ok.watermark_low (λ r e z. z) (λ r e z. inl z) (f u s rd ok))
 
   -- where only slots change, and each that a section holds is kept
   pub keep_slots : {w : World} {h : History} → Inv seen w h → (slot : ℕ → ℕ → Option Slot) → ((s v : ℕ) → w.watermark ≤ s → Carried (KeptState s v) w.slot slot)
@@ -92,7 +92,7 @@ module _ (seen : ℕ → ℕ → Entry) where
   new_sections {w} {h} inv high ws hs le same m =
       record {
         ledgers = λ r. raise high (inv.ledgers r) le;
-        watermark_low = omega (arith, inv.watermark_low, le);
+        watermark_low = omega arith;
         masters = inv.masters;
         slots = subst (λ d. SlotsOk h.entries w.master d w.slot) (sym same) inv.slots;
         drafts = subst (λ d. DraftsOk d w.slot) (sym same) inv.drafts;

@@ -26,7 +26,7 @@ use Rattle.interfaces.specs.Homes as home
 -- a master that is no lower
 raise_master : (ents : ℕ → Entries) (ms ms' : ℕ → Master) (drafts : ℕ → ℕ → Option Body) (o : ℕ) (sl : Slot) (st : Stage) → (ms sl.number).version ≤ (ms' sl.number).version
     → StateAt ents ms drafts o sl st → StateAt ents ms' drafts o sl st
-raise_master ents ms ms' drafts o sl (Retired v t) le k = (k.0, ⊎_elim (λ a. inl (omega (arith, a, le))) (λ n. inr n) k.1)
+raise_master ents ms ms' drafts o sl (Retired v t) le k = (k.0, ⊎_elim (λ a. inl (omega arith)) (λ n. inr n) k.1)
 raise_master ents ms ms' drafts o sl _ le k = k
 
 module _ (seen : ℕ → ℕ → Entry) (w : World) (h : History) (inv : Inv seen w h) (u q : ℕ) (sl : Slot) (there : w.slot u q ≡ Some sl) where
@@ -47,7 +47,7 @@ module _ (seen : ℕ → ℕ → Entry) (w : World) (h : History) (inv : Inv see
 
     unheld : (s x : ℕ) → w.watermark ≤ s → (y : Slot) → sl ≡ y → KeptState s x y.stage → ⊥
     unheld s x le y e c =
-        let z : KeptState s x (Retired v t) = subst (KeptState s x) st (subst (λ a. KeptState s x a.stage) (sym e) c) in omega (arith, z, le, low)
+        let z : KeptState s x (Retired v t) = subst (KeptState s x) st (subst (λ a. KeptState s x a.stage) (sym e) c) in omega arith
 
     freed_inv : (first : ℕ) → Inv seen (with_oldest (with_slots w gone) u first) h
     freed_inv first =
@@ -61,8 +61,8 @@ module _ (seen : ℕ → ℕ → Entry) (w : World) (h : History) (inv : Inv see
         behind : (r : ℕ) (e : Entry) → sl.number ≡ r → v ≡ e.version → ((w.master r).version ≡ e.version) ⊎ Newer (h.entries r) e.version w.watermark
         behind r e a b =
             subst₂ (λ x y. ((w.master x).version ≡ y) ⊎ Newer (h.entries x) y w.watermark) a b
-            (⊎_elim (λ le. ⊎_elim (λ m. inl m) (λ n. inr (master_entry w sl.number, (inv.masters sl.number).is_entry, omega (arith, le, n), (inv.masters sl.number).low)) (cases_eq (w.master sl.number).version v))
-            (λ n. inr (n.0, n.1, n.2, omega (arith, n.3, low))) was.1)
+            (⊎_elim (λ le. ⊎_elim (λ m. inl m) (λ n. inr (master_entry w sl.number, (inv.masters sl.number).is_entry, omega arith, (inv.masters sl.number).low)) (cases_eq (w.master sl.number).version v))
+            (λ n. inr (n.0, n.1, n.2, omega arith)) was.1)
 
         other : (r : ℕ) (e : Entry) (s : SlotWith w.slot r e.version) → ((s.o ≡ u) × (s.p ≡ q) → ⊥)
             → Covered h.entries w.master w.watermark gone r e
@@ -114,7 +114,7 @@ module _ (seen : ℕ → ℕ → Entry) (w : World) (h : History) (inv : Inv see
     back_inv =
         record {
           ledgers = λ r. raise t (inv.ledgers r) (omega arith);
-          watermark_low = omega (arith, inv.watermark_low, lt);
+          watermark_low = omega arith;
           masters = λ r. subst (λ bs. MasterOk (h.entries r) (record { version = (masters' r).version; body = record { bytes = bs; mark = (masters' r).mark } }) w.watermark) (sym (bytes r))
               (eq_case (λ b. MasterOk (h.entries r) (record {
                 version = (cond b master' (w.master r)).version;
@@ -124,7 +124,7 @@ module _ (seen : ℕ → ℕ → Entry) (w : World) (h : History) (inv : Inv see
           slots = λ o p x. put_slot_case (λ y. y ≡ Some x → SlotOk h.entries masters' (draft h) o p x) w.slot u q (Some old) o p
               (λ a b e. (let g = inv.slots u q sl there in
               subst (SlotOk h.entries masters' (draft h) o p) (same_Some old x e)
-              (omega (arith, a, g.0), omega (arith, b, g.1), g.2, (inl (sym is_last), inl (subst (λ m. v ≤ m.version) (sym (put_same w.master sl.number master')) (omega arith))))))
+              (omega arith, omega arith, g.2, (inl (sym is_last), inl (subst (λ m. v ≤ m.version) (sym (put_same w.master sl.number master')) (omega arith))))))
               (λ _ e. (let g = inv.slots o p x e in (g.0, g.1, g.2, raise_master h.entries w.master masters' (draft h) o x x.stage (master_up x.number) g.3)));
           drafts = λ o a b e. (let s = inv.drafts o a b e in (
             s.0,
@@ -143,20 +143,20 @@ module _ (seen : ℕ → ℕ → Entry) (w : World) (h : History) (inv : Inv see
             home m =
                 put_case (λ x. (x.version ≡ e.version) ⊎ (SlotWith back r e.version ⊎ Newer (h.entries r) e.version w.watermark)) w.master sl.number master' r
                 (λ a. ⊎_elim (λ i. inl i) (λ n. inr (inr (subst (λ y. Newer (h.entries y) e.version w.watermark) (sym a)
-                ((h.entries sl.number).last, inl refl, (let le = (inv.ledgers sl.number).newest e (subst (λ y. Ent (h.entries y) e) a z) in omega (arith, le, last_version, n)), omega (arith, last_version, low))))) (cases_eq v e.version))
+                ((h.entries sl.number).last, inl refl, (let le = (inv.ledgers sl.number).newest e (subst (λ y. Ent (h.entries y) e) a z) in omega (arith, last_version)), omega (arith, last_version))))) (cases_eq v e.version))
                 (λ _. inl m)
 
         hold' : (o : ℕ) (s : Section) (rd : Reader) → SectionOk seen (base w h) o s rd
             → (r x : ℕ) (y : Hold) → x ≡ (seen rd.opened_at r).version → HoldOk w.master w.slot s.opening r x y → HoldOk masters' back s.opening r x y
         hold' o s rd ok r x Unset i k = k
-        hold' o s rd ok r x (OnSlot a b) i k = carry_hold w.master w.slot back s.opening r x (moved (KeptState s.opening x) (λ z. (z, omega (arith, ok.opening_low, lt)))) (OnSlot a b) k
+        hold' o s rd ok r x (OnSlot a b) i k = carry_hold w.master w.slot back s.opening r x (moved (KeptState s.opening x) (λ z. (z, omega arith))) (OnSlot a b) k
         hold' o s rd ok r x (OnMaster a) i k = (
           k.0,
           put_case (λ m. m.version ≡ x) w.master sl.number master' r
               (λ e. (let ent : Ent (h.entries r) (h.entries sl.number).last = subst (λ y. Ent (h.entries y) (h.entries sl.number).last) (sym e) (inl refl) in
               let up : (seen rd.opened_at r).version ≤ v =
               subst (λ y. (seen rd.opened_at r).version ≤ y) last_version ((inv.ledgers sl.number).newest (seen rd.opened_at r) (subst (λ y. Ent (h.entries y) (seen rd.opened_at r)) e (ok.seen_entry r))) in
-              ⊎_elim (λ c. omega (arith, c, up, i, last_version)) (λ c. omega (arith, c, last_version, low, ok.watermark_low)) (ok.seen_last r (h.entries sl.number).last ent)))
+              ⊎_elim (λ c. omega (arith, last_version)) (λ c. omega (arith, last_version)) (ok.seen_last r (h.entries sl.number).last ent)))
               (λ _. k.1),
         )
 

@@ -30,19 +30,19 @@ ent_new c (Some b) es e (inl k) = inr (b, refl, k)
 ent_new c (Some b) es e (inr k) = inl k
 
 ledger_new : (c : ℕ) (d : Option Body) (es : Entries) (high : ℕ) → high < c → Ledger es high → Ledger (stored c d es) c
-ledger_new c None es high lt l = record { unique = l.unique; newest = l.newest; bound = omega (arith, l.bound, lt) }
+ledger_new c None es high lt l = record { unique = l.unique; newest = l.newest; bound = omega arith }
 ledger_new c (Some b) es high lt l =
     record {
       unique = λ e f. elim [
         | inl p ↦ elim [ inl q ↦ (λ _. p ∙ sym q) | inr q ↦ (λ v. absurd (old f q (sym v ∙ ap (λ x. x.version) p))) ]
         | inr p ↦ elim [ inl q ↦ (λ v. absurd (old e p (v ∙ ap (λ x. x.version) q))) | inr q ↦ (λ v. l.unique e f p q v) ]
       ];
-      newest = λ e. elim [ inl p ↦ subst (λ x. x.version ≤ c) (sym p) (omega arith) | inr p ↦ omega (arith, l.newest e p, l.bound, lt) ];
+      newest = λ e. elim [ inl p ↦ subst (λ x. x.version ≤ c) (sym p) (omega arith) | inr p ↦ omega (arith, l.newest e p) ];
       bound = omega arith;
     }
   where
     old : (e : Entry) → Ent es e → e.version ≡ c → ⊥
-    old e k v = omega (arith, l.newest e k, l.bound, lt, v)
+    old e k v = omega (arith, l.newest e k)
 
 newer_old : (c : ℕ) (d : Option Body) (es : Entries) (v t : ℕ) → Newer es v t → Newer (stored c d es) v t
 newer_old c d es v t n = (n.0, ent_old c d es n.0 n.1, n.2, n.3)
@@ -52,7 +52,7 @@ live_state : (c : ℕ) (d : Option Body) (es : Entries) (high mv : ℕ) (t t' : 
     → StateOk es mv t b (Live v) → StateOk (stored c d es) mv t' b (cond (is_some d) (Retired v c) (Live v))
 live_state c None es high mv t t' b v lt l k = k
 live_state c (Some x) es high mv t t' b v lt l k =
-    (inr (inl (sym k)), inr (entry c x, inl refl, (let q : es.last.version ≡ v = ap (λ e. e.version) k in omega (arith, q, l.bound, lt)), omega arith))
+    (inr (inl (sym k)), inr (entry c x, inl refl, (let q : es.last.version ≡ v = ap (λ e. e.version) k in omega arith), omega arith))
 
 module _ (seen : ℕ → ℕ → Entry) (w : World) (h : History) (inv : Inv seen w h) (u c : ℕ) (lt : w.highest < c) where
   abbrev stage' : ℕ → ℕ → Stage → Stage
@@ -133,16 +133,16 @@ module _ (seen : ℕ → ℕ → Entry) (w : World) (h : History) (inv : Inv see
   commit_inv =
       record {
         ledgers = λ r. ledger_new c (draft h u r) (h.entries r) w.highest lt (inv.ledgers r);
-        watermark_low = omega (arith, inv.watermark_low, lt);
+        watermark_low = omega arith;
         masters = λ r. record { is_entry = ent_old c (draft h u r) (h.entries r) (master_entry w r) (inv.masters r).is_entry; low = (inv.masters r).low };
         slots = slots';
         drafts = drafts';
         cover = cover';
         sections = put_match seen after w.section h.section u None None tt (carry_sections seen inv after (λ o s rd _ ok.
-            carry_section seen after ok (omega (arith, ok.opening_low, lt)) ok.watermark_low
+            carry_section seen after ok (omega arith) ok.watermark_low
             (λ r e z. ent_old c (draft h u r) (h.entries r) e z)
-            (λ r e z. ⊎_elim (λ a. inl a) (λ y. inr (subst (λ x. s.opening < x.version) (sym y.2) (omega (arith, ok.opening_low, lt)))) (ent_new c (draft h u r) (h.entries r) e z))
-            (λ r v x _ z. carry_hold w.master w.slot slot' s.opening r v (kept' (KeptState s.opening v) (λ y. y) (λ _ y. (y, omega (arith, ok.opening_low, lt)))) x z)));
+            (λ r e z. ⊎_elim (λ a. inl a) (λ y. inr (subst (λ x. s.opening < x.version) (sym y.2) (omega arith))) (ent_new c (draft h u r) (h.entries r) e z))
+            (λ r v x _ z. carry_hold w.master w.slot slot' s.opening r v (kept' (KeptState s.opening v) (λ y. y) (λ _ y. (y, omega arith))) x z)));
       }
     where
       after : Base

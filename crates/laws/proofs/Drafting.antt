@@ -55,7 +55,7 @@ module _ (seen : ℕ → ℕ → Entry) (w : World) (h : History) (inv : Inv see
         new_slots seen inv w.section w.oldest locked _
         (λ o q sl. put_slot_case (λ x. x ≡ Some sl → SlotOk h.entries w.master with_copy o q sl) w.slot u p (Some new) o q
         (λ a b e. subst (SlotOk h.entries w.master with_copy o q) (same_Some new sl e)
-        (omega (arith, a, hu), omega (arith, b, hp), hr, subst (λ y. with_copy y r ≡ Some new.body) (sym a) new_draft))
+        (omega arith, omega arith, hr, subst (λ y. with_copy y r ≡ Some new.body) (sym a) new_draft))
         (λ _ e. (let g = inv.slots o q sl e in
         (g.0, g.1, g.2, carry_state h.entries w.master (draft h) with_copy o sl sl.stage (λ _. kept_draft o sl.number sl.body) g.3))))
         (λ o a b. redraft_case (λ x. x ≡ Some b → (q : ℕ) × (locked o q ≡ Some (draft_slot a b))) h u r copied rd is o a
@@ -68,7 +68,7 @@ module _ (seen : ℕ → ℕ → Entry) (w : World) (h : History) (inv : Inv see
   lock_good c u r hu =
       lock_cases (Good seen w.highest c k h (Lock u r)) w (λ _ _. inv) u r
       (λ s i l _. (let op = opened_here seen inv u s l.open_section in
-      lock_new_good u r (place_of (w.oldest u) i) hu (omega arith) (omega (arith, l.served_here)) op.rd op.is (free_here l) (no_draft_here seen w h inv u r l.no_draft)))
+      lock_new_good u r (place_of (w.oldest u) i) hu (omega arith) (omega arith) op.rd op.is (free_here l) (no_draft_here seen w h inv u r l.no_draft)))
       (λ s e i q _. (let op = opened_here seen inv u s e in
       let d = draft_here seen w h inv u r i q in
       new_sections seen inv w.highest w.section _ (omega arith)

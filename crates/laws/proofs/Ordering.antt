@@ -73,13 +73,13 @@ module _ (slots : ℕ → Option Slot) (first : ℕ) (r : Ring slots first) wher
       record {
         versions = r.versions;
         used = suc r.used;
-        fits = (omega (arith, r.fits.0), omega (arith, is, l.0));
+        fits = (omega arith, omega (arith, is, l.0));
         in_a_row = λ j h. put_case (λ x. is_some x ≡ ltb j (suc r.used)) slots (place_of first i) (Some sl) (place_of first j)
             (λ q. sym (lt-ltb j (suc r.used) (omega (arith, is, one_age first j i h l.0 q))))
-            (λ n. (let ne = other j n in r.in_a_row j h ∙ leb_same (suc j) r.used (suc j) (suc r.used) (λ z. omega arith) (λ z. omega (arith, z, ne))));
+            (λ n. (let ne = other j n in r.in_a_row j h ∙ leb_same (suc j) r.used (suc j) (suc r.used) (λ z. omega arith) (λ z. omega arith)));
         drafts_last = λ j h. put_case (λ x. any_draft x ≡ leb r.versions j) slots (place_of first i) (Some sl) (place_of first j)
-            (λ q. d ∙ sym (le-leb r.versions j (omega (arith, is, r.fits.0, one_age first j i (omega (arith, h, is, l.0)) l.0 q))))
-            (λ n. r.drafts_last j (omega (arith, h, other j n)));
+            (λ q. d ∙ sym (le-leb r.versions j (omega (arith, is, one_age first j i (omega (arith, is, l.0)) l.0 q))))
+            (λ n. r.drafts_last j (omega (arith, other j n)));
       }
     where
       free : ℕ → Bool
@@ -92,8 +92,8 @@ module _ (slots : ℕ → Option Slot) (first : ℕ) (r : Ring slots first) wher
       is =
           let above = ltb-false i r.used (sym (r.in_a_row i l.0) ∙ not-true (is_some (slots (place_of first i))) l.1) in
           ⊎_elim (λ h. (let k = r.used in
-          let z = ltb-true k k (sym (r.in_a_row k (omega (arith, h, l.0))) ∙ not-false (is_some (slots (place_of first k))) (l.2 k h)) in
-          absurd (let f : ⊥ = omega (arith, z) in f))) (λ h. omega (arith, h, above)) (cases_lt r.used i)
+          let z = ltb-true k k (sym (r.in_a_row k (omega (arith, l.0))) ∙ not-false (is_some (slots (place_of first k))) (l.2 k h)) in
+          absurd (let f : ⊥ = omega arith in f))) (λ h. omega arith) (cases_lt r.used i)
 
       other : (j : ℕ) → (place_of first j ≡ place_of first i → ⊥) → j ≡ r.used → ⊥
       other j n q = n (ap (place_of first) (q ∙ sym is))
@@ -104,10 +104,10 @@ module _ (slots : ℕ → Option Slot) (first : ℕ) (r : Ring slots first) wher
       record {
         versions = r.versions;
         used = r.versions;
-        fits = (omega arith, omega (arith, r.fits.0, r.fits.1));
+        fits = (omega arith, omega arith);
         in_a_row = λ i h. left (slots (place_of first i)) ∙ ⊎_elim
-            (λ z. and_from _ _ (r.in_a_row i h ∙ lt-ltb i r.used (omega (arith, z, r.fits.0)))
-            (not_from_false _ (r.drafts_last i (omega (arith, z, r.fits.0)) ∙ lt-leb r.versions i z)) ∙ sym (lt-ltb i r.versions z))
+            (λ z. and_from _ _ (r.in_a_row i h ∙ lt-ltb i r.used (omega arith))
+            (not_from_false _ (r.drafts_last i (omega arith) ∙ lt-leb r.versions i z)) ∙ sym (lt-ltb i r.versions z))
             (λ z. ⊎_elim (λ y. and_right _ _ (not_from_true _ (r.drafts_last i y ∙ le-leb r.versions i z)))
             (λ y. and_left _ _ (r.in_a_row i h ∙ le-ltb i r.used y)) (cases_lt i r.used) ∙ sym (le-ltb i r.versions z))
             (cases_lt i r.versions);
@@ -127,13 +127,13 @@ module _ (slots : ℕ → Option Slot) (first : ℕ) (r : Ring slots first) wher
       record {
         versions = r.versions - 1;
         used = r.used - 1;
-        fits = (omega (arith, r.fits.0), omega (arith, r.fits.1));
+        fits = (omega arith, omega arith);
         in_a_row = λ i h. ⊎_elim
             (λ z. moved (λ x. is_some x ≡ ltb i (r.used - 1)) i z
             (r.in_a_row (suc i) (omega arith) ∙ leb_same (suc (suc i)) r.used (suc i) (r.used - 1) (λ y. omega arith) (λ y. omega arith)))
             (λ z. put_case (λ x. is_some x ≡ ltb i (r.used - 1)) slots (place_of first 0) None (place_of (place_of first 1) i)
-            (λ _. sym (le-ltb i (r.used - 1) (omega (arith, z, r.fits.1)))) (λ n. absurd (n (omega arith)))) (cases_lt i 7);
-        drafts_last = λ i h. moved (λ x. any_draft x ≡ leb (r.versions - 1) i) i (omega (arith, h, r.fits.1))
+            (λ _. sym (le-ltb i (r.used - 1) (omega arith))) (λ n. absurd (n (omega arith)))) (cases_lt i 7);
+        drafts_last = λ i h. moved (λ x. any_draft x ≡ leb (r.versions - 1) i) i (omega arith)
             (r.drafts_last (suc i) (omega arith) ∙ leb_same r.versions (suc i) (r.versions - 1) i (λ y. omega arith) (λ y. omega arith));
       }
     where

@@ -69,34 +69,34 @@ module _ (seen : ℕ → ℕ → Entry) (w : World) (h : History) (inv : Inv see
 
       high : last.version ≤ c.entry.version
       high = elim (inv.cover r last (inl refl)) [
-        | inl m ↦ omega (arith, f.over_master, m)
+        | inl m ↦ omega (arith, f.over_master)
         | inr (inl s) ↦ f.over_slots last.version s tt
-        | inr (inr n) ↦ omega (arith, n.2, led.newest n.0 n.1)
+        | inr (inr n) ↦ omega (arith, led.newest n.0 n.1)
       ]
 
   module _ (u : ℕ) (s : Section) (rd : Reader) (ok : SectionOk seen (base w h) u s rd) (r : ℕ) where
     sees : Highest w r (Some s.opening) (visible w s.opening r)
-    sees = look w r (Some s.opening) (omega (arith, (inv.masters r).low, ok.watermark_low)) bounded
+    sees = look w r (Some s.opening) (omega (arith, (inv.masters r).low)) bounded
 
     sees_entry : Ent (h.entries r) (visible w s.opening r).entry
     sees_entry = seen_entry r (Some s.opening) (visible w s.opening r) sees
 
     sees_low : (visible w s.opening r).entry.version ≤ s.opening
     sees_low =
-        ⊎_elim (λ q. subst (λ x. x.entry.version ≤ s.opening) (sym q) (omega (arith, (inv.masters r).low, ok.watermark_low)))
+        ⊎_elim (λ q. subst (λ x. x.entry.version ≤ s.opening) (sym q) (omega (arith, (inv.masters r).low)))
         (λ i. i.low) sees.one
 
     sees_version : (visible w s.opening r).entry.version ≡ (seen rd.opened_at r).version
     sees_version = omega (arith, low, high)
       where
         low : (visible w s.opening r).entry.version ≤ (seen rd.opened_at r).version
-        low = ⊎_elim (λ a. a) (λ b. omega (arith, b, sees_low)) (ok.seen_last r (visible w s.opening r).entry sees_entry)
+        low = ⊎_elim (λ a. a) (λ b. omega (arith, sees_low)) (ok.seen_last r (visible w s.opening r).entry sees_entry)
 
         high : (seen rd.opened_at r).version ≤ (visible w s.opening r).entry.version
         high = elim (inv.cover r (seen rd.opened_at r) (ok.seen_entry r)) [
-          | inl m ↦ omega (arith, sees.over_master, m)
+          | inl m ↦ omega (arith, sees.over_master)
           | inr (inl k) ↦ sees.over_slots (seen rd.opened_at r).version k (ok.seen_low r)
-          | inr (inr n) ↦ ⊎_elim (λ a. omega (arith, a, n.2)) (λ b. omega (arith, b, n.3, ok.watermark_low)) (ok.seen_last r n.0 n.1)
+          | inr (inr n) ↦ ⊎_elim (λ a. omega arith) (λ b. omega arith) (ok.seen_last r n.0 n.1)
         ]
 
     -- what a section sees is the last entry of the history at its opening
@@ -115,8 +115,8 @@ module _ (seen : ℕ → ℕ → Entry) (w : World) (h : History) (inv : Inv see
         kept o sl of lt (Live x) k q = q
         kept o sl of lt (Retired x t) k q = (
           q,
-          ⊎_elim (λ a. let b : x ≤ (w.master r).version = subst (λ y. x ≤ (w.master y).version) of a in omega (arith, b, lt, q))
-              (λ n. ⊎_elim (λ a. omega (arith, a, n.2, q, sees_version)) (λ b. omega (arith, b, n.3))
+          ⊎_elim (λ a. let b : x ≤ (w.master r).version = subst (λ y. x ≤ (w.master y).version) of a in omega arith)
+              (λ n. ⊎_elim (λ a. omega (arith, sees_version)) (λ b. omega arith)
               (ok.seen_last r n.0 (subst (λ y. Ent (h.entries y) n.0) of n.1))) k.1,
         )
 

@@ -81,7 +81,7 @@ module _ (first : ℕ → List ℕ) (ts : List Turn) where
     pub is : nth ts o ≡ Some (turn door (Open user) answer)
 
   later : (k o : ℕ) → OpenedBy k o → OpenedBy (suc k) o
-  later k o b = record { earlier = omega (arith, b.earlier); door = b.door; user = b.user; answer = b.answer; is = b.is }
+  later k o b = record { earlier = omega arith; door = b.door; user = b.user; answer = b.answer; is = b.is }
 
   opened_change : (k : ℕ) (h : History) (d : Door) (call : Call) (a : Answer) → nth ts k ≡ Some (turn d call a)
       → ((u : ℕ) (rd : Reader) → h.section u ≡ Some rd → OpenedBy k rd.opened_at)
@@ -192,7 +192,7 @@ module _ (run : WholeRun) where
       (λ ne. (let up = step_up y d.stamp t.door t.call d.lawful in
       let low = ih n c at (omega arith) in
       let after : (step y d.stamp t.door t.call).after.highest ≡ z.highest = ap (λ v. v.highest) d.leaves in
-      omega (arith, up, low, after))) (cases_eq n k)
+      omega arith)) (cases_eq n k)
     where
       here : turn at.door (Commit at.user) (committed c) ≡ t → c ≤ z.highest
       here q = again (subst (λ v. Turned y v z) (sym q) d)
@@ -201,7 +201,7 @@ module _ (run : WholeRun) where
           again d =
               let st = commit_stamped y d.stamp at.door at.user c d.lawful d.answers in
               let after : (step y d.stamp at.door (Commit at.user)).after.highest ≡ z.highest = ap (λ v. v.highest) d.leaves in
-              omega (arith, st.low, after)
+              omega arith
 
   commit_turn : (m c : ℕ) (at : CommitAt first ts m c) → TurnAt Bounded m (turn at.door (Commit at.user) (committed c))
   unfolding Bounded
@@ -215,7 +215,7 @@ module _ (run : WholeRun) where
       let d = t.turned in
       let st = commit_stamped t.world d.stamp b.door b.user c d.lawful d.answers in
       let low = t.holds n c a lt in
-      omega (arith, low, st.new pos)
+      omega (arith, st.new pos)
 
   -- what stands at a turn, with no other fact
   turned_at : (k : ℕ) (t : Turn) → nth ts k ≡ Some t → TurnAt (λ _ _. Unit {0}) k t
@@ -229,14 +229,14 @@ module _ (run : WholeRun) where
       let own = accepted_own y.world y.turned.stamp d (Commit u) a y.turned.answers t in
       let z = commit_answer seen y.world (past k) y.inv y.turned.stamp u r b a carries
       (subst (λ out. Lawful y.world.highest y.turned.stamp out.drawn) own y.turned.lawful) (sym (ap (λ out. out.answer) own) ∙ y.turned.answers) t in
-      (z.0, z.1, omega (arith, (y.inv.ledgers r).bound, z.2))
+      (z.0, z.1, omega (arith, (y.inv.ledgers r).bound))
 
   -- a commit of r at m: the last entry after it, and its version is new
   commit_last : (m r c : ℕ) (b : Body) → StoreAt first ts m r c b → (seen (suc m) r ≡ entry c b) × ((seen m r).version < c)
   commit_last m r c b k =
       let a = carrying m k.commit.user r k.commit.door (committed c) b k.commit.is refl k.carries in
       let e : c ≡ a.0 = cc a.1 in
-      (ap (λ y. (y.entries r).last) (before_suc first ts m _ k.commit.is) ∙ ap (λ d. (stored c d ((past m).entries r)).last) k.carries, omega (arith, a.2, e))
+      (ap (λ y. (y.entries r).last) (before_suc first ts m _ k.commit.is) ∙ ap (λ d. (stored c d ((past m).entries r)).last) k.carries, omega arith)
 
   -- the turn at k is a commit of r
   abbrev Stores : ℕ → ℕ → Type 0
@@ -261,11 +261,11 @@ module _ (run : WholeRun) where
   -- versions only grow
   grow_one : (k r : ℕ) → k < length ts → (seen k r).version ≤ (seen (suc k) r).version
   grow_one k r lt =
-      ⊎_elim (λ e. let q : (seen (suc k) r).version ≡ (seen k r).version = ap (λ y. y.version) e in omega (arith, q))
-      (λ z. let l = commit_last k r z.0 z.1 z.2 in let q : (seen (suc k) r).version ≡ z.0 = ap (λ y. y.version) l.0 in omega (arith, q, l.1)) (one_turn k r lt)
+      ⊎_elim (λ e. let q : (seen (suc k) r).version ≡ (seen k r).version = ap (λ y. y.version) e in omega arith)
+      (λ z. let l = commit_last k r z.0 z.1 z.2 in let q : (seen (suc k) r).version ≡ z.0 = ap (λ y. y.version) l.0 in omega arith) (one_turn k r lt)
 
   grows : (i j r : ℕ) → i ≤ j → j ≤ length ts → (seen i r).version ≤ (seen j r).version
-  grows i j r le lj = along (λ y. (seen i r).version ≤ (seen y r).version) i j le (omega arith) (λ k a l ih. omega (arith, ih, grow_one k r (omega arith)))
+  grows i j r le lj = along (λ y. (seen i r).version ≤ (seen y r).version) i j le (omega arith) (λ k a l ih. omega (arith, grow_one k r (omega arith)))
 
   -- with no commit of r on the way the last entry stays
   same_between : (i j r : ℕ) → i ≤ j → j ≤ length ts → ((m c : ℕ) (b : Body) → StoreAt first ts m r c b → i ≤ m → m < j → ⊥) → seen j r ≡ seen i r
@@ -286,7 +286,7 @@ module _ (run : WholeRun) where
     where
       old : (j : ℕ) → (seen j r ≡ seen 0 r) ⊎ Origin j r → seen (suc j) r ≡ seen j r → (seen (suc j) r ≡ seen 0 r) ⊎ Origin (suc j) r
       old j (inl e) q = inl (q ∙ e)
-      old j (inr o) q = inr (record { m = o.m; c = o.c; b = o.b; commit = o.commit; earlier = omega (arith, o.earlier); is = q ∙ o.is })
+      old j (inr o) q = inr (record { m = o.m; c = o.c; b = o.b; commit = o.commit; earlier = omega arith; is = q ∙ o.is })
 
       new : (j : ℕ) → Stores j r → (seen (suc j) r ≡ seen 0 r) ⊎ Origin (suc j) r
       new j z = inr (record { m = j; c = z.0; b = z.1; commit = z.2; earlier = omega arith; is = (commit_last j r z.0 z.1 z.2).0 })
@@ -296,7 +296,7 @@ module _ (run : WholeRun) where
   apart i j r m c b k le lt lj =
       let l = commit_last m r c b k in
       let q : (seen (suc m) r).version ≡ c = ap (λ y. y.version) l.0 in
-      omega (arith, grows i m r le (omega arith), l.1, q, grows (suc m) j r lt lj)
+      omega (arith, grows i m r le (omega arith), grows (suc m) j r lt lj)
 
   -- Equal finds.
 
@@ -322,7 +322,7 @@ module _ (run : WholeRun) where
       (record {
         state = a.0;
         version = a.1;
-        fits = omega (arith, b.earlier, lt);
+        fits = omega arith;
         opens = λ m c y z e. no_commit z.commit.door b.door c z.commit.user b.user b.answer (sym z.commit.is ∙ ap (nth ts) e ∙ b.is);
       })
 
@@ -336,18 +336,18 @@ module _ (run : WholeRun) where
       s₂ = saw k₂ r o₂ st₂ v₂ f₂
 
       only : (v₁ ≡ v₂) × (st₁ ≡ st₂) → (m c : ℕ) (b : Body) → StoreAt first ts m r c b → Between first ts o₁ m o₂ → ⊥
-      only e m c b k (inl z) = omega (arith, apart o₁ o₂ r m c b k (omega (arith, z.0)) z.1 (omega (arith, s₂.fits)), s₁.version, s₂.version, e.0)
-      only e m c b k (inr z) = omega (arith, apart o₂ o₁ r m c b k (omega (arith, z.0)) z.1 (omega (arith, s₁.fits)), s₁.version, s₂.version, e.0)
+      only e m c b k (inl z) = omega (arith, apart o₁ o₂ r m c b k (omega arith) z.1 (omega (arith, s₂.fits)), s₁.version, s₂.version)
+      only e m c b k (inr z) = omega (arith, apart o₂ o₁ r m c b k (omega arith) z.1 (omega (arith, s₁.fits)), s₁.version, s₂.version)
 
       equal : seen o₁ r ≡ seen o₂ r → (v₁ ≡ v₂) × (st₁ ≡ st₂)
       equal q = (s₁.version ∙ ap (λ y. y.version) q ∙ sym s₂.version, s₁.state ∙ ap (λ y. version_state y.body.mark) q ∙ sym s₂.state)
 
       whenever : ((m c : ℕ) (b : Body) → StoreAt first ts m r c b → Between first ts o₁ m o₂ → ⊥) → (v₁ ≡ v₂) × (st₁ ≡ st₂)
       whenever no' =
-          ⊎_elim (λ lt. equal (sym (same_between o₁ o₂ r (omega (arith, lt)) (omega (arith, s₂.fits))
-          (λ m c b k a l. ⊎_elim (λ e. s₁.opens m c b k e) (λ n. no' m c b k (inl (omega (arith, a, n), l))) (cases_eq m o₁)))))
+          ⊎_elim (λ lt. equal (sym (same_between o₁ o₂ r (omega arith) (omega (arith, s₂.fits))
+          (λ m c b k a l. ⊎_elim (λ e. s₁.opens m c b k e) (λ n. no' m c b k (inl (omega arith, l))) (cases_eq m o₁)))))
           (λ le. equal (same_between o₂ o₁ r le (omega (arith, s₁.fits))
-          (λ m c b k a l. ⊎_elim (λ e. s₂.opens m c b k e) (λ n. no' m c b k (inr (omega (arith, a, n), l))) (cases_eq m o₂))))
+          (λ m c b k a l. ⊎_elim (λ e. s₂.opens m c b k e) (λ n. no' m c b k (inr (omega arith, l))) (cases_eq m o₂))))
           (cases_lt o₁ o₂)
 
   -- Held bytes.
@@ -362,7 +362,7 @@ module _ (run : WholeRun) where
       fits =
           let lt = get_lt ts k _ f.is in
           let b = opened_by first ts k (omega arith) f.user reader f.open_section in
-          omega (arith, b.earlier, lt)
+          omega arith
 
       answer : (v ≡ (seen o r).version) × (bs ≡ part offset count (seen o r).body.bytes)
       answer =
@@ -378,7 +378,7 @@ module _ (run : WholeRun) where
 
       above : 0 < v → (m : ℕ) × (b : Body) × StoredBy first ts r v o m b × (bs ≡ part offset count b.bytes)
       above pos =
-          ⊎_elim (λ e. absurd (let f : ⊥ = omega (arith, pos, first_zero e) in f))
+          ⊎_elim (λ e. absurd (let f : ⊥ = omega (arith, first_zero e) in f))
           (λ g. (let k : StoreAt first ts g.m r v g.b = subst (λ y. StoreAt first ts g.m r y g.b) (sym (stamp g)) g.commit in (
             g.m,
             g.b,
@@ -386,7 +386,7 @@ module _ (run : WholeRun) where
               stores = k;
               earlier = g.earlier;
               only = λ n a. ⊎_elim (λ lt. absurd (once n g.m v a k.commit pos lt))
-                  (λ le. ⊎_elim (λ e. e) (λ ne. absurd (once g.m n v k.commit a pos (omega (arith, le, ne)))) (cases_eq n g.m)) (cases_lt n g.m);
+                  (λ le. ⊎_elim (λ e. e) (λ ne. absurd (once g.m n v k.commit a pos (omega arith))) (cases_eq n g.m)) (cases_lt n g.m);
             },
             answer.1 ∙ ap (λ y. part offset count y.body.bytes) g.is,
           )))
@@ -395,7 +395,7 @@ module _ (run : WholeRun) where
       zero_case : v ≡ 0 → bs ≡ part offset count (first r)
       zero_case z =
           ⊎_elim (λ e. answer.1 ∙ ap (λ y. part offset count y.body.bytes) e)
-          (λ g. absurd (let q = (commit_last g.m r g.c g.b g.commit).1 in let f : ⊥ = omega (arith, q, stamp g, z) in f)) (origin o r fits)
+          (λ g. absurd (let q = (commit_last g.m r g.c g.b g.commit).1 in let f : ⊥ = omega (arith, stamp g) in f)) (origin o r fits)
 
 pub equal_finds : OfEveryRun EqualFinds
 equal_finds home highest turns w r = find_law (whole_run r)

@@ -38,9 +38,9 @@ module _ (seen : ℕ → ℕ → Entry) (w : World) (h : History) (inv : Inv see
           record {
             user = hu;
             opening_low = omega arith;
-            watermark_low = omega (arith, inv.watermark_low, le);
+            watermark_low = omega arith;
             seen_entry = λ r. inl (now r);
-            seen_low = λ r. subst (λ x. x.version ≤ c) (sym (now r)) (omega (arith, (inv.ledgers r).bound, le));
+            seen_low = λ r. subst (λ x. x.version ≤ c) (sym (now r)) (omega (arith, (inv.ledgers r).bound));
             seen_last = λ r e z. inl (subst (λ x. e.version ≤ x.version) (sym (now r)) ((inv.ledgers r).newest e z));
             holds = λ i r v q. cc;
           }
@@ -109,7 +109,7 @@ first_is : (sections : ℕ → Option Section) (m : OpenSection) → first_opene
 unfolding first_opened
 first_is sections m e =
     let i = open_section_member (opened_row sections) m e in
-    let lt : i.0 < 8 = omega (arith, i.1, length-map-range_with_len f 0 8) in
+    let lt : i.0 < 8 = omega (arith, length-map-range_with_len f 0 8) in
     option_case (λ o. opened_as i.0 o ≡ Some m → (u : ℕ) × (s : Section) × (sections u ≡ Some s) × (s.opening ≡ m.stamp)) (sections i.0) (λ _ k. cc)
     (λ s q k. (i.0, s, q, ap (λ (y : OpenSection). y.stamp) (same_Some (record { stamp = s.opening; user = i.0 }) m k)))
     (sym (get_or-map-range_with_len f 0 8 i.0 i.0 None lt (zero-add i.0)) ∙ i.2)
@@ -120,7 +120,7 @@ first_is sections m e =
 -- an open section stands in the row
 in_row : (sections : ℕ → Option Section) (u : ℕ) (s : Section) → u < 8 → sections u ≡ Some s → InRow (opened_row sections) (record { stamp = s.opening; user = u })
 in_row sections u s lt e =
-    (u, omega (arith, lt, length-map-range_with_len (λ u. opened_as u (sections u)) 0 8), get_or-map-range_with_len (λ u. opened_as u (sections u)) 0 8 u u None lt (zero-add u) ∙ ap (opened_as u) e)
+    (u, omega (arith, length-map-range_with_len (λ u. opened_as u (sections u)) 0 8), get_or-map-range_with_len (λ u. opened_as u (sections u)) 0 8 u u None lt (zero-add u) ∙ ap (opened_as u) e)
 
 first_below : (sections : ℕ → Option Section) (m : OpenSection) → first_opened sections ≡ Some m → (u : ℕ) (s : Section) → u < 8 → sections u ≡ Some s → m.stamp ≤ s.opening
 unfolding first_opened
@@ -153,7 +153,7 @@ module _ (seen : ℕ → ℕ → Entry) (w : World) (h : History) (inv : Inv see
         masters = λ r. record { is_entry = (inv.masters r).is_entry; low = omega (arith, (inv.masters r).low, up) };
         slots = inv.slots;
         drafts = inv.drafts;
-        cover = λ r e z. ⊎_elim (λ a. inl a) (⊎_elim (λ x. inr (inl x)) (λ n. inr (inr (n.0, n.1, n.2, omega (arith, n.3, up))))) (inv.cover r e z);
+        cover = λ r e z. ⊎_elim (λ a. inl a) (⊎_elim (λ x. inr (inl x)) (λ n. inr (inr (n.0, n.1, n.2, omega (arith, up))))) (inv.cover r e z);
         sections = carry_sections seen inv (base (with_watermark w (lowest w)) h) (λ u s rd e ok.
             carry_section seen _ ok ok.opening_low (lowest_below w u s ok.user e) (λ r e z. z) (λ r e z. inl z) (λ r v y _ z. z));
       }

@@ -129,9 +129,9 @@ module _ (w : World) (r : ℕ) (limit : Option ℕ) (master_low : Within limit (
         let fits = bounded c.o c.p c.sl c.there in
         let age = age_of (w.oldest c.o) c.p fits.1 in
         let k = c.o * 8 + age.0 in
-        let e₁ : k / 8 ≡ c.o = omega (arith, age.1) in
-        let e₂ : k % 8 ≡ age.0 = omega (arith, age.1) in
-        let lt : k < 64 = omega (arith, age.1, fits.0) in
+        let e₁ : k / 8 ≡ c.o = omega arith in
+        let e₂ : k % 8 ≡ age.0 = omega arith in
+        let lt : k < 64 = omega arith in
         let e₃ : place_of (w.oldest (k / 8)) (k % 8) ≡ c.p = ap (λ y. place_of (w.oldest y) (k % 8)) e₁ ∙ ap (λ y. place_of (w.oldest c.o) y) e₂ ∙ age.2 in
         let there : w.slot (k / 8) (place_of (w.oldest (k / 8)) (k % 8)) ≡ Some c.sl = ap (λ y. w.slot y (place_of (w.oldest (k / 8)) (k % 8))) e₁ ∙ ap (w.slot c.o) e₃ ∙ c.there in
         no_newer k (record { version = v; place = place.Slot (k / 8) (k % 8) }) (omega arith)
@@ -164,7 +164,7 @@ module _ (w : World) (r : ℕ) (limit : Option ℕ) (master_low : Within limit (
 
     found : Highest w r limit (seen_as w r (Some x))
     unfolding foremost
-    found = let i = candidate_member line x e in let lt : i.0 < 65 = omega (arith, long, i.1) in in_cell i.0 lt (sym (reads i.0 lt) ∙ i.2)
+    found = let i = candidate_member line x e in let lt : i.0 < 65 = omega (arith, long) in in_cell i.0 lt (sym (reads i.0 lt) ∙ i.2)
 
   never_none : foremost w.slot w.oldest w.master r limit ≡ None → ⊥
   unfolding foremost

@@ -94,7 +94,7 @@ module _ (seen' : ℕ → ℕ → Entry) where
             let e : (newest w r).entry.version ≡ (h.entries r).last.version = ap (λ y. y.version) (newest_is seen' w h inv r) in
             let up = led.newest (seen' rd.opened_at r) (ok.seen_entry r) in
             led.unique (seen' rd.opened_at r) (h.entries r).last (ok.seen_entry r) (inl refl)
-            (⊎_elim (λ c. omega (arith, c, up)) (λ c. omega (arith, c, e, le)) (ok.seen_last r (h.entries r).last (inl refl)))
+            (⊎_elim (λ c. omega arith) (λ c. omega arith) (ok.seen_last r (h.entries r).last (inl refl)))
 
     -- no other user has a draft, where the store says so
     not_other : (u r : ℕ) → locked_by_other w.slot w.oldest u r ≡ false → (v o : ℕ) → v < 8 → Owns h v r o → v ≡ u
@@ -200,7 +200,7 @@ module _ (run : WholeRun) where
       let t = turn_at run AloneAt alone_first alone_kept m _ own.commit.is in
       let q : (seen run rd.opened_at r).version ≡ (seen run m r).version = ap (λ y. y.version) (t.holds.based own.commit.user r rd.opened_at
       (record { rd = rd; b = b; is = is; has = ap (λ y. draft_in y r) (sym is) ∙ own.carries; at = refl })) in
-      omega (arith, q, apart run rd.opened_at m r n d e other (omega (arith, lo)) hi (omega (arith, lt)))
+      omega (arith, apart run rd.opened_at m r n d e other (omega arith) hi (omega arith))
 
 pub no_write_lost : OfEveryRun NoWriteLost
 no_write_lost home highest ts x reached = writes_stay (whole_run reached)
