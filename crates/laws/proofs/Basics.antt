@@ -54,7 +54,7 @@ Least n t o = MatchOption o ((i : ℕ) → i < n → t i ≡ false) (λ i. (i < 
 
 least_is : (n : ℕ) (t : ℕ → Bool) → Least n t (least n t)
 unfolding least
-least_is zero t = λ i h. absurd (let f : ⊥ = omega arith in f)
+least_is zero t = λ i h. absurd (omega arith)
 least_is (suc n) t = go (least n t) (least_is n t)
   where
     go : (o : Option ℕ) → Least n t o → Least (suc n) t (or_else o (cond (t n) (Some n) None))

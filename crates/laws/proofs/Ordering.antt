@@ -93,7 +93,7 @@ module _ (slots : ℕ → Option Slot) (first : ℕ) (r : Ring slots first) wher
           let above = ltb-false i r.used (sym (r.in_a_row i l.0) ∙ not-true (is_some (slots (place_of first i))) l.1) in
           ⊎_elim (λ h. (let k = r.used in
           let z = ltb-true k k (sym (r.in_a_row k (omega (arith, l.0))) ∙ not-false (is_some (slots (place_of first k))) (l.2 k h)) in
-          absurd (let f : ⊥ = omega arith in f))) (λ h. omega arith) (cases_lt r.used i)
+          absurd (omega arith))) (λ h. omega arith) (cases_lt r.used i)
 
       other : (j : ℕ) → (place_of first j ≡ place_of first i → ⊥) → j ≡ r.used → ⊥
       other j n q = n (ap (place_of first) (q ∙ sym is))
@@ -139,7 +139,7 @@ module _ (slots : ℕ → Option Slot) (first : ℕ) (r : Ring slots first) wher
     where
       moved : (P : Option Slot → Type 0) (i : ℕ) → i < 7 → P (slots (place_of first (suc i))) → P (put slots (place_of first 0) None (place_of (place_of first 1) i))
       moved P i h k =
-          put_case P slots (place_of first 0) None (place_of (place_of first 1) i) (λ z. absurd (let f : ⊥ = omega arith in f))
+          put_case P slots (place_of first 0) None (place_of (place_of first 1) i) (λ z. absurd (omega arith))
           (λ _. (let q : place_of first (suc i) ≡ place_of (place_of first 1) i = omega arith in subst (λ y. P (slots y)) q k))
 
 abbrev Rings : World → Type 0
@@ -213,7 +213,7 @@ empty_ring first =
       used = 0;
       fits = (omega arith, omega arith);
       in_a_row = λ i _. sym (le-ltb i 0 (omega arith));
-      drafts_last = λ i h. absurd (let f : ⊥ = omega arith in f);
+      drafts_last = λ i h. absurd (omega arith);
     }
 
 turned_rings : (y z : World) (t : Turn) → Turned y t z → Rings y → Rings z

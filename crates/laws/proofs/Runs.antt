@@ -59,7 +59,7 @@ get_lt (x ∷ xs) zero t e = omega arith
 get_lt (x ∷ xs) (suc k) t e = omega (arith, get_lt xs k t e)
 
 pub get_drop : (ts : List Turn) (k : ℕ) → k < length ts → (t : Turn) × (nth ts k ≡ Some t) × (drop k ts ≡ t ∷ drop (suc k) ts)
-get_drop [] k h = absurd (let f : ⊥ = omega arith in f)
+get_drop [] k h = absurd (omega arith)
 get_drop (x ∷ xs) zero h = (x, refl, refl)
 get_drop (x ∷ xs) (suc k) h = get_drop xs k (omega arith)
 
@@ -205,7 +205,7 @@ module _ (run : WholeRun) where
 
   commit_turn : (m c : ℕ) (at : CommitAt first ts m c) → TurnAt Bounded m (turn at.door (Commit at.user) (committed c))
   unfolding Bounded
-  commit_turn m c at = turn_at Bounded (λ n c at lt. absurd (let f : ⊥ = omega arith in f)) bounded m _ at.is
+  commit_turn m c at = turn_at Bounded (λ n c at lt. absurd (omega arith)) bounded m _ at.is
 
   -- two commits never answer the same stamp above 0
   once : (n m c : ℕ) → CommitAt first ts n c → CommitAt first ts m c → 0 < c → n < m → ⊥
@@ -378,7 +378,7 @@ module _ (run : WholeRun) where
 
       above : 0 < v → (m : ℕ) × (b : Body) × StoredBy first ts r v o m b × (bs ≡ part offset count b.bytes)
       above pos =
-          ⊎_elim (λ e. absurd (let f : ⊥ = omega (arith, first_zero e) in f))
+          ⊎_elim (λ e. absurd (omega (arith, first_zero e)))
           (λ g. (let k : StoreAt first ts g.m r v g.b = subst (λ y. StoreAt first ts g.m r y g.b) (sym (stamp g)) g.commit in (
             g.m,
             g.b,
@@ -395,7 +395,7 @@ module _ (run : WholeRun) where
       zero_case : v ≡ 0 → bs ≡ part offset count (first r)
       zero_case z =
           ⊎_elim (λ e. answer.1 ∙ ap (λ y. part offset count y.body.bytes) e)
-          (λ g. absurd (let q = (commit_last g.m r g.c g.b g.commit).1 in let f : ⊥ = omega (arith, stamp g) in f)) (origin o r fits)
+          (λ g. absurd (omega (arith, (commit_last g.m r g.c g.b g.commit).1, stamp g))) (origin o r fits)
 
 pub equal_finds : OfEveryRun EqualFinds
 equal_finds home highest turns w r = find_law (whole_run r)
