@@ -74,7 +74,7 @@ module _ (seen : ℕ → ℕ → Entry) (w : World) (h : History) (inv : Inv see
   state' : (o : ℕ) (sl : Slot) (st : Stage) → StateAt h.entries w.master (draft h) o sl st → StateAt ents' w.master table' o sl (stage' o sl.number st)
   state' o sl Draft ok =
       eq_case (λ b. StateOk (ents' sl.number) (w.master sl.number).version (draft_in (cond b None (h.section o)) sl.number) sl.body (cond b (Live c) Draft)) o u
-      (λ e. ap (λ d. (stored c d (h.entries sl.number)).last) (ap (λ y. draft h y sl.number) (sym e) ∙ ok)) (λ _. ok)
+      (λ e. cc) (λ _. ok)
   state' o sl (Live v) ok =
       subst (λ t. StateAt ents' w.master table' o sl (cond t (Retired v c) (Live v))) (sym (has_draft_is seen w h inv u sl.number))
       (live_state c (draft h u sl.number) (h.entries sl.number) w.highest (w.master sl.number).version (draft h o sl.number) (table' o sl.number) sl.body v lt (inv.ledgers sl.number) ok)

@@ -48,7 +48,7 @@ module _ (seen : ℕ → ℕ → Entry) (w : World) (h : History) (inv : Inv see
     newest_body = ap (λ e. e.body) (newest_is seen w h inv r)
 
     new_draft : with_copy u r ≡ Some new.body
-    new_draft = redraft_case (λ x. x ≡ Some new.body) h u r copied rd is u r (λ _ _. ap copied no_draft ∙ ap Some (sym newest_body)) (λ n. absurd (n (refl, refl)))
+    new_draft = redraft_case (λ x. x ≡ Some new.body) h u r copied rd is u r (λ _ _. cc (ap copied no_draft, newest_body)) (λ n. absurd (n (refl, refl)))
 
     lock_new_good : Inv seen (with_slots w locked) (with_reader h u (on_some (redraft r copied) (h.section u)))
     lock_new_good =
@@ -73,7 +73,7 @@ module _ (seen : ℕ → ℕ → Entry) (w : World) (h : History) (inv : Inv see
       let d = draft_here seen w h inv u r i q in
       new_sections seen inv w.highest w.section _ (omega arith)
       (fun_ext (λ o. fun_ext (λ a. redraft_case (λ x. x ≡ draft h o a) h u r (drafted (h.entries r).last.body) op.rd op.is o a
-      (λ y z. ap (drafted (h.entries r).last.body) d.1 ∙ sym d.1 ∙ ap (λ q. draft h q r) (sym y) ∙ ap (draft h o) (sym z)) (λ _. refl))))
+      (λ y z. cc (ap (drafted (h.entries r).last.body) d.1, d.1)) (λ _. refl))))
       (redraft_match seen inv w.slot u r (drafted (h.entries r).last.body) (λ s v o p sl e x. (sl, e, refl, x)))))
 
   -- An edit of u's draft of r by f.
@@ -104,7 +104,7 @@ module _ (seen : ℕ → ℕ → Entry) (w : World) (h : History) (inv : Inv see
             → StateOk (h.entries sl.number) (w.master sl.number).version (with_edit o sl.number) (f sl.body) st
         own y Draft d z e =
             redraft_case (λ x. x ≡ Some (f sl.body)) h u r (on_some f) rd is o sl.number
-            (λ _ _. ap (on_some f) (ap (λ q. draft h q r) (sym y) ∙ ap (draft h o) (sym z) ∙ e)) (λ n. absurd (n (y, z)))
+            (λ _ _. cc) (λ n. absurd (n (y, z)))
         own y (Live v) d z e = cc
         own y (Retired v t) d z e = cc
 

@@ -44,8 +44,8 @@ module _ (slots : ℕ → Option Slot) (first : ℕ) (r : Ring slots first) wher
   over_ring : (p : ℕ) (sl new : Slot) → slots p ≡ Some sl → is_draft sl.stage ≡ is_draft new.stage → Ring (put slots p (Some new)) first
   over_ring p sl new e d =
       same_ring (put slots p (Some new))
-      (λ q. put_case (λ x. is_some x ≡ is_some (slots q)) slots p (Some new) q (λ z. sym (ap (λ y. is_some (slots y)) z ∙ ap is_some e)) (λ _. refl))
-      (λ q. put_case (λ x. any_draft x ≡ any_draft (slots q)) slots p (Some new) q (λ z. sym (ap (λ y. any_draft (slots y)) z ∙ ap any_draft e ∙ d)) (λ _. refl))
+      (λ q. put_case (λ x. is_some x ≡ is_some (slots q)) slots p (Some new) q (λ z. cc) (λ _. refl))
+      (λ q. put_case (λ x. any_draft x ≡ any_draft (slots q)) slots p (Some new) q (λ z. cc) (λ _. refl))
 
   used_on : (f : Slot → Slot) (x : Option Slot) → is_some (on_some f x) ≡ is_some x
   used_on f None = refl

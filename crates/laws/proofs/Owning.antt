@@ -72,7 +72,7 @@ put_owned ws hs slot slot' u x y here stays own v s rd =
 other_slot : (slot : ℕ → ℕ → Option Slot) (u q : ℕ) (x : Option Slot) → ((r : ℕ) (b : Body) → slot u q ≡ Some (draft_slot r b) → ⊥) → (v : ℕ) → Stays (slot v) (put_slot slot u q x v)
 other_slot slot u q x no' v p r b e = (
   b,
-  put_slot_case (λ y. y ≡ Some (draft_slot r b)) slot u q x v p (λ a z. absurd (no' r b (ap (λ y. slot y q) (sym a) ∙ ap (slot v) (sym z) ∙ e))) (λ _. e),
+  put_slot_case (λ y. y ≡ Some (draft_slot r b)) slot u q x v p (λ a z. absurd (no' r b cc)) (λ _. e),
 )
 
 module _ (seen : ℕ → ℕ → Entry) (w : World) (h : History) (inv : Inv seen w h) (own : OwnHolds w h) (k : ℕ) where

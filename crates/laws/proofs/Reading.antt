@@ -1,5 +1,5 @@
 -- What a section sees, what a lock copies, and which drafts there are: the store finds what the history says.
-use Rattle.std.proofs.Common.{◌≡◌, ℕ, ◌<◌, ◌≤◌, Bool, true, false, eqb, Some, None, Option, sym, refl, ap, ◌∙◌, subst, inl, inr, ⊎_elim, arith}
+use Rattle.std.proofs.Common.{◌≡◌, ℕ, ◌<◌, ◌≤◌, Bool, true, false, eqb, Some, None, Option, sym, refl, ap, subst, inl, inr, ⊎_elim, arith}
 use Rattle.std.proofs.lemmas.Bool.{eq-eqb, eqb-true, and_parts}
 use Rattle.model.specs.declared.body.Body.{Body}
 use Rattle.model.specs.declared.slot.Stage.{Stage}
@@ -32,7 +32,7 @@ module _ (seen : ℕ → ℕ → Entry) (w : World) (h : History) (inv : Inv see
     where
       go : (st : Stage) → StateAt h.entries w.master (draft h) o sl st → HasVersion v st → Ent (h.entries sl.number) (entry v sl.body)
       go Draft k q = absurd q
-      go (Live x) k q = inl (ap (λ y. entry y sl.body) (sym q) ∙ sym k)
+      go (Live x) k q = inl cc
       go (Retired x t) k q = subst (λ y. Ent (h.entries sl.number) (entry y sl.body)) q k.0
 
   -- what is seen of a record is an entry

@@ -1,7 +1,7 @@
 -- The foremost version of a record within a limit: what the pick of the row of cells comes to.
 use Rattle.std.proofs.Common.{◌≡◌, ℕ, ◌+◌, ◌*◌, ◌/◌, ◌%◌, ◌<◌, ◌≤◌, true, eqb, ◌⊎◌, List, length, get_or, Some, None, Option, sym, refl, ap, ◌∙◌, subst, inl, inr, ⊎_elim, zero-add, arith}
 use Rattle.std.proofs.lemmas.Bool.{eq-eqb, eqb-true, cases_lt, lt-ltb, leb-true, le-leb, cond_both}
-use Rattle.std.proofs.lemmas.Option.{same_Some, cond_some}
+use Rattle.std.proofs.lemmas.Option.{cond_some}
 use Rattle.std.proofs.lemmas.List.FromFn.{length-map-range_with_len, get_or-map-range_with_len}
 use Rattle.order.specs.Kinds.{PlaceBefore, CandidateBefore}
 use Rattle.order.specs.declared.candidate.Candidate.{Candidate}
@@ -132,8 +132,8 @@ module _ (w : World) (r : ℕ) (limit : Option ℕ) (master_low : Within limit (
         let e₁ : k / 8 ≡ c.o = omega arith in
         let e₂ : k % 8 ≡ age.0 = omega arith in
         let lt : k < 64 = omega arith in
-        let e₃ : place_of (w.oldest (k / 8)) (k % 8) ≡ c.p = ap (λ y. place_of (w.oldest y) (k % 8)) e₁ ∙ ap (λ y. place_of (w.oldest c.o) y) e₂ ∙ age.2 in
-        let there : w.slot (k / 8) (place_of (w.oldest (k / 8)) (k % 8)) ≡ Some c.sl = ap (λ y. w.slot y (place_of (w.oldest (k / 8)) (k % 8))) e₁ ∙ ap (w.slot c.o) e₃ ∙ c.there in
+        let e₃ : place_of (w.oldest (k / 8)) (k % 8) ≡ c.p = cc in
+        let there : w.slot (k / 8) (place_of (w.oldest (k / 8)) (k % 8)) ≡ Some c.sl = cc in
         no_newer k (record { version = v; place = place.Slot (k / 8) (k % 8) }) (omega arith)
         (rw (lt-ltb k 64 lt, there) (shown_is r limit (place.Slot (k / 8) (k % 8)) c.sl v c.number c.version low))
 
@@ -160,7 +160,7 @@ module _ (w : World) (r : ℕ) (limit : Option ℕ) (master_low : Within limit (
     in_cell : (k : ℕ) → k < 65 → cell_at k ≡ Some x → Highest w r limit (seen_as w r (Some x))
     in_cell k lt c =
         ⊎_elim (λ l. at_slot k (shows r limit (place.Slot (k / 8) (k % 8)) (w.slot (k / 8) (place_of (w.oldest (k / 8)) (k % 8))) x (rw (lt-ltb k 64 l) at c)))
-        (λ ge. at_master (let last : k ≡ 64 = omega arith in same_Some x mine (sym c ∙ ap cell_at last ∙ cell_master))) (cases_lt k 64)
+        (λ ge. at_master (let last : k ≡ 64 = omega arith in cc cell_master)) (cases_lt k 64)
 
     found : Highest w r limit (seen_as w r (Some x))
     unfolding foremost
