@@ -1,16 +1,14 @@
 -- Every turn keeps the invariant, and what an accepted find, take and commit answer by it.
 use Rattle.std.proofs.Common.{◌≡◌, ℕ, ◌<◌, ◌≤◌, true, false, not, ◌&&◌, ltb, leb, List, Some, None, sym, refl, ap, ◌∙◌, subst, inl, inr, arith}
 use Rattle.std.proofs.lemmas.Bool.{ltb-true, and_parts, not-false}
-use Rattle.std.proofs.lemmas.Option.{same_Some, cond_some}
+use Rattle.std.proofs.lemmas.Option.{cond_some}
 use Rattle.interfaces.specs.Homes.{Meaning}
 use Rattle.model.specs.declared.door.Door.{Door}
 use Rattle.model.specs.declared.door.Door.TheVariants.{Host, Firmware}
 use Rattle.model.specs.declared.body.Body.{Body}
 use Rattle.model.specs.declared.answer.State.{State}
-use Rattle.model.specs.declared.slot.Slot.{Slot}
 use Rattle.model.specs.declared.slot.Hold.{Hold}
 use Rattle.model.specs.declared.slot.Hold.TheVariants.{Unset, OnMaster, OnSlot}
-use Rattle.model.specs.Tools.{on_some}
 use Rattle.model.specs.Worlds.{Entry, Section, World, first_hour, served, home_bytes, master_entry, part}
 use Rattle.model.specs.Calls.{Call, Open, Find, Take, Lock, Put, Clear, Commit, Abort, Survey, Collect, Tick, Answer, found, taken, committed, accepted, of_door, foreign}
 use Rattle.model.specs.Drafts.{version_state}
@@ -81,13 +79,17 @@ module _ (seen : ℕ → ℕ → Entry) (w : World) (h : History) (inv : Inv see
       → v ≡ (seen rd.opened_at r).version → HoldOk w.master w.slot s.opening r v x → (b : Body) → held w x ≡ Some b → b ≡ (seen rd.opened_at r).body
   held_is u s rd ok r v Unset e k b q = absurd k
   held_is u s rd ok r v (OnMaster a) e k b q =
-      let is : (master_entry w a).body ≡ b = (cond_some (ltb a (served w)) (master_entry w a).body b q).1 in
-      sym is ∙ ap (λ y. (master_entry w y).body) k.0
-      ∙ ap (λ y. y.body) ((inv.ledgers r).unique (master_entry w r) (seen rd.opened_at r) (inv.masters r).is_entry (ok.seen_entry r) (k.1 ∙ e))
+      cc (
+        (cond_some (ltb a (served w)) (master_entry w a).body b q).1,
+        ap (λ y. (master_entry w y).body) k.0,
+        ap (λ y. y.body) ((inv.ledgers r).unique (master_entry w r) (seen rd.opened_at r) (inv.masters r).is_entry (ok.seen_entry r) (k.1 ∙ e)),
+      )
   held_is u s rd ok r v (OnSlot o p) e k b q =
-      same_Some b k.0.body (sym q ∙ ap (on_some (λ (y : Slot). y.body)) k.1)
-      ∙ ap (λ y. y.body) ((inv.ledgers r).unique (entry v k.0.body) (seen rd.opened_at r)
-      (subst (λ y. Ent (h.entries y) (entry v k.0.body)) k.2 (slot_entry seen w h inv o p k.0 v k.1 (kept_version s.opening v k.0.stage k.3))) (ok.seen_entry r) e)
+      cc (
+        k.1,
+        ap (λ y. y.body) ((inv.ledgers r).unique (entry v k.0.body) (seen rd.opened_at r)
+            (subst (λ y. Ent (h.entries y) (entry v k.0.body)) k.2 (slot_entry seen w h inv o p k.0 v k.1 (kept_version s.opening v k.0.stage k.3))) (ok.seen_entry r) e),
+      )
 
   pub take_answer : (u i offset count : ℕ) (bs : List ℕ) (rd : Reader) (r v : ℕ) → h.section u ≡ Some rd → rd.hold i ≡ version_of r v → (take_step w u i offset count).answer ≡ taken bs
       → (v ≡ (seen rd.opened_at r).version) × (bs ≡ part offset count (seen rd.opened_at r).body.bytes)

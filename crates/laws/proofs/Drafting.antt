@@ -1,5 +1,5 @@
 -- The turns that change drafts: lock, put, clear, abort.
-use Rattle.std.proofs.Common.{◌≡◌, ℕ, ◌<◌, true, false, cond, ◌&&◌, eqb, List, Some, None, Option, sym, refl, ap, ◌∙◌, subst, arith}
+use Rattle.std.proofs.Common.{◌≡◌, ℕ, ◌<◌, true, false, ◌&&◌, eqb, List, Some, None, Option, sym, refl, ap, ◌∙◌, subst, arith}
 use mathlib.Core.Path.{fun_ext}
 use Rattle.std.proofs.lemmas.Bool.{eq-eqb, eqb-true, and_parts, and_from, cond_both}
 use Rattle.std.proofs.lemmas.Option.{same_Some}
@@ -126,9 +126,7 @@ module _ (seen : ℕ → ℕ → Entry) (w : World) (h : History) (inv : Inv see
             (λ y z e. (let g = on_some_some f (draft h u r) b e in
             let s = inv.drafts u r g.0 g.1 in (
               s.0,
-              ap (λ q. on_some (edited u r f o) (w.slot q s.0)) y ∙ ap (on_some (edited u r f o)) s.1
-                  ∙ ap (λ t. Some (cond t (draft_slot r (f g.0)) (draft_slot r g.0))) (and_from (eqb o u) (eqb r r) (eq-eqb o u y) (eq-eqb r r refl))
-                  ∙ (λ i. Some (draft_slot (sym z i) (g.2 i))),
+              cc (s.1, g.2, and_from (eqb o u) (eqb r r) (eq-eqb o u y) (eq-eqb r r refl)),
             )))
             (λ n e. (let s = inv.drafts o a b e in (
               s.0,

@@ -12,7 +12,7 @@ use Rattle.model.specs.declared.door.Door.TheVariants.{Host}
 use Rattle.model.specs.Tools.{put, on_some}
 use Rattle.model.specs.Worlds.{Entry, Section, World, home_bytes, part, written, blank, first_hour, with_slots, put_slot}
 use Rattle.model.specs.Calls.{Call, Open, Find, Take, Lock, Put, Clear, Commit, Abort, Collect, taken, turn}
-use Rattle.model.specs.Versions.{place_of, visible, newest}
+use Rattle.model.specs.Versions.{place_of, newest}
 use Rattle.model.specs.Drafts.{is_draft, any_draft, edited, undrafted, settled}
 use Rattle.model.specs.Steps.{fresh, Outcome, holding, held, take_step, settle, survey_step, oldest_place, own_step, step}
 use Rattle.model.specs.History.{Held, own_draft, Reader, History, draft_in, with_reader, opening, held_by, finding, locking, editing, fed}
@@ -116,12 +116,9 @@ module _ (seen : ℕ → ℕ → Entry) (w : World) (h : History) (inv : Inv see
       (λ _. put_owned w.section h.section w.slot w.slot u (Some (fresh c)) (Some (opening k)) (λ s rd _ q i r e. cc (ap (λ y. y.hold i) (same_Some (opening k) rd q))) (λ v _ p r b e. (b, e)) own)
   own_step_owns c (Find u i r) =
       find_cases (KeepsOwn (Find u i r)) w (λ _. own) u i r
-      (λ s e q. finding_owns u i r s e _ _ (λ rd is a z. (let n : rd.draft r ≡ None = ap (λ y. draft_in y r) (sym is) ∙ no_draft_here seen w h inv u r q in
-      cc (ap (held_by r (visible w s.opening r).entry.version) n))))
+      (λ s e q. finding_owns u i r s e _ _ (λ rd is a z. cc (ap (λ y. draft_in y r) is, no_draft_here seen w h inv u r q)))
       (λ s e j q. finding_owns u i r s e _ _ (λ rd is a z. (let d = draft_here seen w h inv u r j q in
-      let n : rd.draft r ≡ Some d.0 = ap (λ y. draft_in y r) (sym is) ∙ d.1 in
-      let same : r ≡ a = cc (ap (held_by r 0) n) in
-      (place_of (w.oldest u) j, d.0, refl, d.2 ∙ ap (λ y. Some (draft_slot y d.0)) same))))
+      (place_of (w.oldest u) j, d.0, refl, cc (ap (λ y. draft_in y r) is, d.1, d.2)))))
   own_step_owns c (Take u i offset count) = take_cases (KeepsOwn (Take u i offset count)) w (λ _. own) u i offset count (λ _ _ _ _. own)
   own_step_owns c (Lock u r) =
       lock_cases (KeepsOwn (Lock u r)) w (λ _. own) u r
@@ -159,9 +156,8 @@ module _ (seen : ℕ → ℕ → Entry) (w : World) (h : History) (inv : Inv see
   draft_answer u i offset count bs rd r is holds =
       take_cases P w (λ why z. cc) u i offset count (λ s e b q z.
       (let g = own u s rd e is i r holds in
-      let x : g.1 ≡ b = same_Some g.1 b (ap (on_some (λ (y : Slot). y.body)) (sym g.3) ∙ ap (held w) (sym g.2) ∙ q) in
-      let bytes : bs ≡ part offset count b.bytes = cc in
-      (g.1, ap (λ y. draft_in y r) (sym is) ∙ (inv.slots u g.0 (draft_slot r g.1) g.3).3, bytes ∙ ap (λ y. part offset count y.bytes) (sym x))))
+      let x : g.1 ≡ b = cc (g.2, g.3) in
+      (g.1, cc (ap (λ y. draft_in y r) is, (inv.slots u g.0 (draft_slot r g.1) g.3).3), cc (ap (λ y. part offset count y.bytes) x))))
     where
       P : Outcome → Type 0
       P out = out.answer ≡ taken bs → (b : Body) × (rd.draft r ≡ Some b) × (bs ≡ part offset count b.bytes)

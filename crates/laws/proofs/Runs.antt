@@ -65,12 +65,12 @@ get_drop (x ∷ xs) (suc k) h = get_drop xs k (omega arith)
 
 replay_suc : (ts : List Turn) (j : ℕ) (h : History) (k : ℕ) (t : Turn) → nth ts k ≡ Some t → replay j h (take (suc k) ts) ≡ fed (j + k) (replay j h (take k ts)) t
 replay_suc [] j h k t e = cc
-replay_suc (x ∷ xs) j h zero t e = ap (fed j h) (same_Some x t e) ∙ ap (λ y. fed y h t) (sym (add-zero j))
-replay_suc (x ∷ xs) j h (suc k) t e = replay_suc xs (suc j) (fed j h x) k t e ∙ ap (λ y. fed y (replay (suc j) (fed j h x) (take k xs)) t) (suc-add j k ∙ sym (add-suc j k))
+replay_suc (x ∷ xs) j h zero t e = cc (add-zero j)
+replay_suc (x ∷ xs) j h (suc k) t e = cc (replay_suc xs (suc j) (fed j h x) k t e, suc-add j k, add-suc j k)
 
 module _ (first : ℕ → List ℕ) (ts : List Turn) where
   pub before_suc : (k : ℕ) (t : Turn) → nth ts k ≡ Some t → before first ts (suc k) ≡ fed k (before first ts k) t
-  before_suc k t e = replay_suc ts 0 (outset first) k t e ∙ ap (λ y. fed y (before first ts k) t) (zero-add k)
+  before_suc k t e = cc (replay_suc ts 0 (outset first) k t e, zero-add k)
 
   -- what an open section remembers of its opening
   pub record OpenedBy (k o : ℕ) : Type 0 where
