@@ -29,7 +29,7 @@ pub record MayLock (w : World) (u r : ℕ) (s : Section) (i : ℕ) : Type 0 wher
   pub not_newer : (newest w r).entry.version ≤ s.opening
   pub first_free : free_age (w.slot u) (w.oldest u) ≡ Some i
 
--- the place of that age
+-- the place of that age is free
 pub free_here : {w : World} {u r : ℕ} {s : Section} {i : ℕ} → MayLock w u r s i → w.slot u (place_of (w.oldest u) i) ≡ None
 free_here {w} {u} {r} {s} {i} l =
     is_some_false (w.slot u (place_of (w.oldest u) i)) (not-true _ (least_some 8 (λ j. not (is_some (w.slot u (place_of (w.oldest u) j)))) i l.first_free).1)

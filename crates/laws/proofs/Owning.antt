@@ -157,7 +157,7 @@ module _ (seen : ℕ → ℕ → Entry) (w : World) (h : History) (inv : Inv see
       take_cases P w (λ why z. cc) u i offset count (λ s e b q z.
       (let g = own u s rd e is i r holds in
       let x : g.1 ≡ b = cc (g.2, g.3) in
-      (g.1, cc (ap (λ y. draft_in y r) is, (inv.slots u g.0 (draft_slot r g.1) g.3).3), cc (ap (λ y. part offset count y.bytes) x))))
+      (g.1, cc (inv.slots u g.0 (draft_slot r g.1) g.3).3, cc (ap (λ y. part offset count y.bytes) x))))
     where
       P : Outcome → Type 0
       P out = out.answer ≡ taken bs → (b : Body) × (rd.draft r ≡ Some b) × (bs ≡ part offset count b.bytes)
