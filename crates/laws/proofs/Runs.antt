@@ -182,34 +182,28 @@ module _ (run : WholeRun) where
   -- Commits.
 
   -- no commit before has answered above the highest stamp
-  Bounded : ℕ → World → Type 0
+  abbrev Bounded : ℕ → World → Type 0
   Bounded k w = (n c : ℕ) → CommitAt first ts n c → n < k → c ≤ w.highest
 
   bounded : Kept Bounded
-  unfolding Bounded
   bounded k t y z e inv d ih n c at lt =
-      ⊎_elim (λ q. here (same_Some _ t (sym at.is ∙ ap (nth ts) q ∙ e)))
+      ⊎_elim (λ q. subst (λ v. Turned y v z → c ≤ z.highest) (same_Some _ t (sym at.is ∙ ap (nth ts) q ∙ e)) own d)
       (λ ne. (let up = step_up y d.stamp t.door t.call d.lawful in
       let low = ih n c at (omega arith) in
       let after : (step y d.stamp t.door t.call).after.highest ≡ z.highest = ap (λ v. v.highest) d.leaves in
       omega arith)) (cases_eq n k)
     where
-      here : turn at.door (Commit at.user) (committed c) ≡ t → c ≤ z.highest
-      here q = again (subst (λ v. Turned y v z) (sym q) d)
-        where
-          again : Turned y (turn at.door (Commit at.user) (committed c)) z → c ≤ z.highest
-          again d =
-              let st = commit_stamped y d.stamp at.door at.user c d.lawful d.answers in
-              let after : (step y d.stamp at.door (Commit at.user)).after.highest ≡ z.highest = ap (λ v. v.highest) d.leaves in
-              omega arith
+      own : Turned y (turn at.door (Commit at.user) (committed c)) z → c ≤ z.highest
+      own d =
+          let st = commit_stamped y d.stamp at.door at.user c d.lawful d.answers in
+          let after : (step y d.stamp at.door (Commit at.user)).after.highest ≡ z.highest = ap (λ v. v.highest) d.leaves in
+          omega arith
 
   commit_turn : (m c : ℕ) (at : CommitAt first ts m c) → TurnAt Bounded m (turn at.door (Commit at.user) (committed c))
-  unfolding Bounded
   commit_turn m c at = turn_at Bounded (λ n c at lt. absurd (omega arith)) bounded m _ at.is
 
   -- two commits never answer the same stamp above 0
   once : (n m c : ℕ) → CommitAt first ts n c → CommitAt first ts m c → 0 < c → n < m → ⊥
-  unfolding Bounded
   once n m c a b pos lt =
       let t = commit_turn m c b in
       let d = t.turned in
