@@ -53,12 +53,14 @@ module _ (seen : ℕ → ℕ → Entry) where
       → SectionOk seen b u s rd
   carry_section b {u} {s} {rd} ok high low c d f =
       record {
-        user = ok.user;
-        opening_low = high;
-        watermark_low = low;
-        seen_entry = λ r. c r (seen rd.opened_at r) (ok.seen_entry r);
-        seen_low = ok.seen_low;
-        seen_last = λ r e k. ⊎_elim (λ z. ok.seen_last r e z) (λ z. inr z) (d r e k);
+        sees = record {
+          user = ok.user;
+          opening_low = high;
+          watermark_low = low;
+          seen_entry = λ r. c r (seen rd.opened_at r) (ok.seen_entry r);
+          seen_low = ok.seen_low;
+          seen_last = λ r e k. ⊎_elim (λ z. ok.seen_last r e z) (λ z. inr z) (d r e k);
+        };
         holds = λ i r v q. (let g = ok.holds i r v q in (g.0, f r v (s.hold i) g.0 g.1));
       }
 
@@ -146,5 +148,4 @@ redraft_match seen {w} {h} inv slot' u r t f o =
     again : (a : Option Section) (q : Option Reader) → Match seen (base (with_slots w slot') h) o a q → Match seen (base (with_slots w slot') h) o a (on_some (redraft r t) q)
     again a None k = k
     again None (Some rd) k = k
-    again (Some s) (Some rd) ok =
-        record { user = ok.user; opening_low = ok.opening_low; watermark_low = ok.watermark_low; seen_entry = ok.seen_entry; seen_low = ok.seen_low; seen_last = ok.seen_last; holds = ok.holds }
+    again (Some s) (Some rd) ok = record { sees = ok.sees; holds = ok.holds }

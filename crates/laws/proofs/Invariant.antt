@@ -104,14 +104,19 @@ base w h = record { high = w.highest; watermark = w.watermark; entries = h.entri
 
 -- seen k r is the last entry of r in the history before the turn at the position k
 module _ (seen : ℕ → ℕ → Entry) where
-  -- An open section: what it has seen of each record is an entry at most its opening stamp, and every newer entry is above that stamp.
-  pub record SectionOk (b : Base) (u : ℕ) (s : Section) (rd : Reader) : Type 0 where
+  -- What a section of u, opened at the stamp s and the position o, has seen of each record is an entry at most s, and every newer entry is above s.
+  pub record SeenOk (b : Base) (u s o : ℕ) : Type 0 where
     pub user : u < 8
-    pub opening_low : s.opening ≤ b.high
-    pub watermark_low : b.watermark ≤ s.opening
-    pub seen_entry : (r : ℕ) → Ent (b.entries r) (seen rd.opened_at r)
-    pub seen_low : (r : ℕ) → (seen rd.opened_at r).version ≤ s.opening
-    pub seen_last : (r : ℕ) (e : Entry) → Ent (b.entries r) e → (e.version ≤ (seen rd.opened_at r).version) ⊎ (s.opening < e.version)
+    pub opening_low : s ≤ b.high
+    pub watermark_low : b.watermark ≤ s
+    pub seen_entry : (r : ℕ) → Ent (b.entries r) (seen o r)
+    pub seen_low : (r : ℕ) → (seen o r).version ≤ s
+    pub seen_last : (r : ℕ) (e : Entry) → Ent (b.entries r) e → (e.version ≤ (seen o r).version) ⊎ (s < e.version)
+
+  -- An open section, and its holds on versions.
+  pub record SectionOk (b : Base) (u : ℕ) (s : Section) (rd : Reader) : Type 0 where
+    pub sees : SeenOk b u s.opening rd.opened_at
+    pub open sees use *
     pub holds : (i r v : ℕ) → rd.hold i ≡ version_of r v → (v ≡ (seen rd.opened_at r).version) × HoldOk b.master b.slot s.opening r v (s.hold i)
 
   abbrev pub Match : Base → ℕ → Option Section → Option Reader → Type 0

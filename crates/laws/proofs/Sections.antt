@@ -36,12 +36,14 @@ module _ (seen : ℕ → ℕ → Entry) (w : World) (h : History) (inv : Inv see
       mine : w.highest ≤ c → SectionOk seen (base (with_highest w c) h) u (fresh c) rd
       mine le =
           record {
-            user = hu;
-            opening_low = omega arith;
-            watermark_low = omega arith;
-            seen_entry = λ r. inl (now r);
-            seen_low = λ r. subst (λ x. x.version ≤ c) (sym (now r)) (omega (arith, (inv.ledgers r).bound));
-            seen_last = λ r e z. inl (subst (λ x. e.version ≤ x.version) (sym (now r)) ((inv.ledgers r).newest e z));
+            sees = record {
+              user = hu;
+              opening_low = omega arith;
+              watermark_low = omega arith;
+              seen_entry = λ r. inl (now r);
+              seen_low = λ r. subst (λ x. x.version ≤ c) (sym (now r)) (omega (arith, (inv.ledgers r).bound));
+              seen_last = λ r e z. inl (subst (λ x. e.version ≤ x.version) (sym (now r)) ((inv.ledgers r).newest e z));
+            };
             holds = λ i r v q. cc;
           }
 
@@ -58,15 +60,7 @@ module _ (seen : ℕ → ℕ → Entry) (w : World) (h : History) (inv : Inv see
 
     found_section : SectionOk seen (base w h) u (record s { hold = put s.hold i x }) (finding i r v op.rd)
     found_section =
-        record {
-          user = op.ok.user;
-          opening_low = op.ok.opening_low;
-          watermark_low = op.ok.watermark_low;
-          seen_entry = op.ok.seen_entry;
-          seen_low = op.ok.seen_low;
-          seen_last = op.ok.seen_last;
-          holds = here;
-        }
+        record { sees = op.ok.sees; holds = here }
       where
         here : (j r' v' : ℕ) → put op.rd.hold i (held_by r v (op.rd.draft r)) j ≡ version_of r' v'
             → (v' ≡ (seen op.rd.opened_at r').version) × HoldOk w.master w.slot s.opening r' v' (put s.hold i x j)
