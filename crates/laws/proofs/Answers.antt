@@ -1,47 +1,26 @@
 -- Every turn keeps the invariant, and what an accepted find, take and commit answer by it.
-use Rattle.std.proofs.Common.{◌≡◌, ℕ, ◌<◌, ◌≤◌, true, false, cond, not, ◌&&◌, ltb, leb, List, Some, None, sym, refl, ap, ◌∙◌, subst, inl, inr, arith}
+use Rattle.std.proofs.Common.{◌≡◌, ℕ, ◌<◌, ◌≤◌, true, false, not, ◌&&◌, ltb, leb, List, Some, None, sym, refl, ap, ◌∙◌, subst, inl, inr, arith}
 use Rattle.std.proofs.lemmas.Bool.{ltb-true, and_parts, not-false}
+use Rattle.std.proofs.lemmas.Option.{cond_some}
 use Rattle.interfaces.specs.Homes.{Meaning}
-use Rattle.interfaces.specs.Stamps.{top}
 use Rattle.model.specs.declared.door.Door.{Door}
 use Rattle.model.specs.declared.door.Door.TheVariants.{Host, Firmware}
 use Rattle.model.specs.declared.body.Body.{Body}
 use Rattle.model.specs.declared.answer.State.{State}
-use Rattle.model.specs.declared.refusal.Refusal.{Refusal}
-use Rattle.model.specs.declared.refusal.Refusal.TheVariants.{OtherDoor, NotOpen, NotServed, NoHold, BadRange, StampsSpent}
-use Rattle.model.specs.declared.slot.Stage.{Stage}
-use Rattle.model.specs.declared.slot.Stage.TheVariants.{Draft, Live, Retired}
-use Rattle.model.specs.declared.slot.Slot.{Slot}
 use Rattle.model.specs.declared.slot.Hold.{Hold}
 use Rattle.model.specs.declared.slot.Hold.TheVariants.{Unset, OnMaster, OnSlot}
-use Rattle.model.specs.Tools.{on_some}
 use Rattle.model.specs.Worlds.{Entry, Section, World, first_hour, served, home_bytes, master_entry, part}
-use Rattle.model.specs.Calls.{Call, Open, Find, Take, Lock, Put, Clear, Commit, Abort, Survey, Collect, Tick, Answer, refused, found, taken, committed, accepted, of_door, foreign}
-use Rattle.model.specs.Drafts.{draft_age, has_drafts, version_state}
-use Rattle.model.specs.Steps.{Outcome, Lawful, refuse, bad_range, find_in, find_step, held, take_from, take_step, commit_drafts, commit_step, own_step, step}
+use Rattle.model.specs.Calls.{Call, Open, Find, Take, Lock, Put, Clear, Commit, Abort, Survey, Collect, Tick, Answer, found, taken, committed, accepted, of_door, foreign}
+use Rattle.model.specs.Drafts.{version_state}
+use Rattle.model.specs.Steps.{Outcome, Lawful, find_step, held, take_step, commit_step, own_step, step}
 use Rattle.model.specs.History.{version_of, Reader, History, draft_in, draft, outset}
-use Rattle.laws.proofs.Basics.{none_some, true_false, some_path, bool_case, option_case, unless_case, section_case, HasVersion}
-use Rattle.laws.proofs.Invariant.{entry, Ent, KeptState, HoldOk, SectionOk, Inv, Good, Opened, opened_here}
+use Rattle.laws.proofs.Cases.{step_cases, find_cases, take_cases, commit_cases}
+use Rattle.laws.proofs.Invariant.{entry, Ent, kept_version, HoldOk, base, SectionOk, Inv, Good, section_here}
 use Rattle.laws.proofs.Reading.{slot_entry, visible_is, draft_here, no_drafts_here}
 use Rattle.laws.proofs.Sections.{open_good, find_good, take_good, survey_good, tick_good}
 use Rattle.laws.proofs.Drafting.{lock_good, put_good, clear_good, abort_good}
 use Rattle.laws.proofs.Committing.{commit_good}
 use Rattle.laws.proofs.Collecting.{collect_good}
-
-refused_found : {X : Type 0} (c : Refusal) (st : State) (v : ℕ) → refused c ≡ found st v → X
-refused_found c st v e = let z : ◌≡◌ {A = ℕ} 0 1 = cc in absurd (let f : ⊥ = omega arith in f)
-
-refused_taken : {X : Type 0} (c : Refusal) (bs : List ℕ) → refused c ≡ taken bs → X
-refused_taken c bs e = let z : ◌≡◌ {A = ℕ} 0 1 = cc in absurd (let f : ⊥ = omega arith in f)
-
-found_state : (a b : State) (v x : ℕ) → found a v ≡ found b x → a ≡ b
-found_state a b v x e = cc
-
-found_version : (a b : State) (v x : ℕ) → found a v ≡ found b x → v ≡ x
-found_version a b v x e = cc
-
-taken_bytes : (a b : List ℕ) → taken a ≡ taken b → a ≡ b
-taken_bytes a b e = cc
 
 -- at the first hour
 pub outset_inv : (seen : ℕ → ℕ → Entry) (home : Meaning) (highest : ℕ) → Inv seen (first_hour home highest) (outset (home_bytes home))
@@ -50,8 +29,8 @@ outset_inv seen home highest =
       ledgers = λ r. record { unique = λ a b p q _. first r a p ∙ sym (first r b q); newest = λ e p. subst (λ y. y.version ≤ 0) (sym (first r e p)) (omega arith); bound = omega arith };
       watermark_low = omega arith;
       masters = λ r. record { is_entry = inl refl; low = omega arith };
-      slots = λ o p sl e. none_some sl e;
-      drafts = λ u r b e. none_some b e;
+      slots = λ o p sl e. cc;
+      drafts = λ u r b e. cc;
       cover = λ r e p. inl (ap (λ y. y.version) (sym (first r e p)));
       sections = λ u. tt;
     }
@@ -81,58 +60,43 @@ module _ (seen : ℕ → ℕ → Entry) (w : World) (h : History) (inv : Inv see
   own_good k s d (Tick t) own now = tick_good seen w h inv k s t
 
   pub step_good : (k s : ℕ) (d : Door) (call : Call) → ((r : ℕ) → seen k r ≡ (h.entries r).last) → Good seen w.highest s k h call (step w s d call)
-  step_good k s d call now = unless_case (Good seen w.highest s k h call) w (foreign d call) OtherDoor _ (λ _. inv) (λ own. own_good k s d call own now)
-
-  same_reader : (u : ℕ) (rd : Reader) (s : Section) → h.section u ≡ Some rd → Opened seen w.highest w.watermark h.entries w.master w.slot u s (h.section u)
-      → SectionOk seen w.highest w.watermark h.entries w.master w.slot u s rd
-  same_reader u rd s e op = subst (λ y. SectionOk seen w.highest w.watermark h.entries w.master w.slot u s y) (some_path op.rd rd (sym op.is ∙ e)) op.ok
+  step_good k s d call now = step_cases (Good seen w.highest s k h call) w (λ _ _. inv) s d call (λ own. own_good k s d call own now)
 
   -- a find of no own draft answers what the section has seen
   pub find_answer : (u i r : ℕ) (st : State) (v : ℕ) (rd : Reader) → h.section u ≡ Some rd → rd.draft r ≡ None → (find_step w u i r).answer ≡ found st v
       → (st ≡ version_state (seen rd.opened_at r).body.mark) × (v ≡ (seen rd.opened_at r).version)
-  unfolding find_step
   find_answer u i r st v rd is no_draft =
-      section_case P w (w.section u) _ (λ e. refused_found NotOpen st v e) (λ s e.
-      unless_case P w (leb (served w) r) NotServed _ (λ q. refused_found NotServed st v q) (λ _.
-      unless_case P w (ltb 3 i) NoHold _ (λ q. refused_found NoHold st v q) (λ _.
-      option_case (λ o. P (find_in w u s i r o)) (draft_age (w.slot u) (w.oldest u) r)
-      (λ _ q. (let ok = same_reader u rd s is (opened_here seen inv u s e) in
-      let z = visible_is seen w h inv u s rd ok r in
-      (sym (found_state _ st _ v q) ∙ ap (λ y. version_state y.body.mark) z, sym (found_version _ st _ v q) ∙ ap (λ y. y.version) z)))
-      (λ j q _. (let d = draft_here seen w h inv u r j q in none_some d.0 (sym no_draft ∙ ap (λ y. draft_in y r) (sym is) ∙ d.1))))))
+      find_cases P w (λ why e. cc) u i r
+      (λ s e _ q. (let z = visible_is seen w h inv u s rd (section_here seen inv u s rd e is) r in
+      (cc (ap (λ y. version_state y.body.mark) z), cc (ap (λ y. y.version) z))))
+      (λ s e j k q. (let d = draft_here seen w h inv u r j k in cc (d.1, ap (λ y. draft_in y r) is)))
     where
       P : Outcome → Type 0
       P out = out.answer ≡ found st v → (st ≡ version_state (seen rd.opened_at r).body.mark) × (v ≡ (seen rd.opened_at r).version)
 
-  kept_version : (s v : ℕ) (st : Stage) → KeptState s v st → HasVersion st v
-  kept_version s v Draft k = k
-  kept_version s v (Live x) k = k
-  kept_version s v (Retired x t) k = k.0
-
   -- the body held is the one seen
-  held_is : (u : ℕ) (s : Section) (rd : Reader) → SectionOk seen w.highest w.watermark h.entries w.master w.slot u s rd → (r v : ℕ) (x : Hold)
+  held_is : (u : ℕ) (s : Section) (rd : Reader) → SectionOk seen (base w h) u s rd → (r v : ℕ) (x : Hold)
       → v ≡ (seen rd.opened_at r).version → HoldOk w.master w.slot s.opening r v x → (b : Body) → held w x ≡ Some b → b ≡ (seen rd.opened_at r).body
   held_is u s rd ok r v Unset e k b q = absurd k
   held_is u s rd ok r v (OnMaster a) e k b q =
-      bool_case (λ t. cond t (Some (master_entry w a).body) None ≡ Some b → b ≡ (seen rd.opened_at r).body) (ltb a (served w))
-      (λ _ z. sym (some_path (master_entry w a).body b z) ∙ ap (λ y. (master_entry w y).body) k.0
-      ∙ ap (λ y. y.body) ((inv.ledgers r).unique (master_entry w r) (seen rd.opened_at r) (inv.masters r).is_entry (ok.seen_entry r) (k.1 ∙ e))) (λ _ z. none_some b z) q
+      cc (
+        (cond_some (ltb a (served w)) (master_entry w a).body b q).1,
+        ap (λ y. (master_entry w y).body) k.0,
+        ap (λ y. y.body) ((inv.ledgers r).unique (master_entry w r) (seen rd.opened_at r) (inv.masters r).is_entry (ok.seen_entry r) (k.1 ∙ e)),
+      )
   held_is u s rd ok r v (OnSlot o p) e k b q =
-      sym (some_path k.0.body b (ap (on_some (λ (y : Slot). y.body)) (sym k.1) ∙ q))
-      ∙ ap (λ y. y.body) ((inv.ledgers r).unique (entry v k.0.body) (seen rd.opened_at r)
-      (subst (λ y. Ent (h.entries y) (entry v k.0.body)) k.2 (slot_entry seen w h inv o p k.0 v k.1 (kept_version s.opening v k.0.stage k.3))) (ok.seen_entry r) e)
+      cc (
+        k.1,
+        ap (λ y. y.body) ((inv.ledgers r).unique (entry v k.0.body) (seen rd.opened_at r)
+            (subst (λ y. Ent (h.entries y) (entry v k.0.body)) k.2 (slot_entry seen w h inv o p k.0 v k.1 (kept_version s.opening v k.0.stage k.3))) (ok.seen_entry r) e),
+      )
 
   pub take_answer : (u i offset count : ℕ) (bs : List ℕ) (rd : Reader) (r v : ℕ) → h.section u ≡ Some rd → rd.hold i ≡ version_of r v → (take_step w u i offset count).answer ≡ taken bs
       → (v ≡ (seen rd.opened_at r).version) × (bs ≡ part offset count (seen rd.opened_at r).body.bytes)
-  unfolding take_step
   take_answer u i offset count bs rd r v is holds =
-      section_case P w (w.section u) _ (λ e. refused_taken NotOpen bs e) (λ s e.
-      unless_case P w (ltb 3 i) NoHold _ (λ q. refused_taken NoHold bs q) (λ _.
-      option_case (λ b. P (take_from w offset count b)) (held w (s.hold i)) (λ _ q. refused_taken NoHold bs q)
-      (λ b k. unless_case P w (bad_range offset count) BadRange _ (λ q. refused_taken BadRange bs q)
-      (λ _ q. (let ok = same_reader u rd s is (opened_here seen inv u s e) in
+      take_cases P w (λ why q. cc) u i offset count (λ s e b k q. (let ok = section_here seen inv u s rd e is in
       let g = ok.holds i r v holds in
-      (g.0, sym (taken_bytes _ bs q) ∙ ap (λ y. part offset count y.bytes) (held_is u s rd ok r v (s.hold i) g.0 g.1 b k)))))))
+      (g.0, cc (ap (λ y. part offset count y.bytes) (held_is u s rd ok r v (s.hold i) g.0 g.1 b k)))))
     where
       P : Outcome → Type 0
       P out = out.answer ≡ taken bs → (v ≡ (seen rd.opened_at r).version) × (bs ≡ part offset count (seen rd.opened_at r).body.bytes)
@@ -140,21 +104,15 @@ module _ (seen : ℕ → ℕ → Entry) (w : World) (h : History) (inv : Inv see
   -- an accepted commit that carries a record answers a new stamp
   pub commit_answer : (s u r : ℕ) (b : Body) (a : Answer) → draft h u r ≡ Some b → Lawful w.highest s (commit_step w s u).drawn → (commit_step w s u).answer ≡ a → accepted a ≡ true
       → (c : ℕ) × (a ≡ committed c) × (w.highest < c)
-  unfolding commit_step
   commit_answer s u r b a carries =
-      section_case P w (w.section u) _ refusal (λ _ _.
-      bool_case (λ x. P (commit_drafts w s u x)) (has_drafts (w.slot u) (w.oldest u))
-      (λ _. unless_case P w (leb top w.highest) StampsSpent _ refusal (λ _ next e _. (s, sym e, next)))
-      (λ n _ _ _. none_some b (sym (no_drafts_here seen w h inv u n r) ∙ carries)))
+      commit_cases P w (λ why l e t. cc (ap accepted e)) s u (λ next e _. (s, sym e, next)) (λ n _ e t. cc (no_drafts_here seen w h inv u n r))
     where
       P : Outcome → Type 0
       P out = Lawful w.highest s out.drawn → out.answer ≡ a → accepted a ≡ true → (c : ℕ) × (a ≡ committed c) × (w.highest < c)
 
-      refusal : {why : Refusal} → P (refuse w why)
-      refusal l e t = true_false (accepted a) t (ap accepted (sym e))
-
 -- what was accepted was asked at the right door
 pub accepted_own : (w : World) (s : ℕ) (d : Door) (call : Call) (a : Answer) → (step w s d call).answer ≡ a → accepted a ≡ true → step w s d call ≡ own_step w s call
-accepted_own w s d call a =
-    unless_case (λ out. out.answer ≡ a → accepted a ≡ true → out ≡ own_step w s call) w (foreign d call) OtherDoor _
-    (λ e t. true_false (accepted a) t (ap accepted (sym e))) (λ _ _ _. refl)
+accepted_own w s d call a = step_cases (λ out. out.answer ≡ a → accepted a ≡ true → out ≡ own_step w s call) w (λ why e t. cc (ap accepted e)) s d call (λ _ _ _. refl)
+
+pub own_answered : (w : World) (s : ℕ) (d : Door) (call : Call) (a : Answer) → (step w s d call).answer ≡ a → accepted a ≡ true → (own_step w s call).answer ≡ a
+own_answered w s d call a e t = ap (λ out. out.answer) (sym (accepted_own w s d call a e t)) ∙ e

@@ -1,23 +1,19 @@
 -- How the parts of the invariant are carried over a turn.
-use Rattle.std.proofs.Common.{◌≡◌, ℕ, ◌<◌, ◌≤◌, true, false, cond, ◌⊎◌, Some, None, Option, sym, refl, ◌∙◌, subst, inl, inr, ⊎_elim, arith}
+use Rattle.std.proofs.Common.{◌≡◌, ℕ, ◌<◌, ◌≤◌, true, cond, ◌⊎◌, Some, None, Option, sym, refl, ◌∙◌, subst, inl, inr, ⊎_elim, arith}
 use mathlib.Core.Path.{fun_ext}
 use Rattle.model.specs.declared.body.Body.{Body}
 use Rattle.model.specs.declared.slot.Stage.{Stage}
-use Rattle.model.specs.declared.slot.Stage.TheVariants.{Draft, Live, Retired}
+use Rattle.model.specs.declared.slot.Stage.TheVariants.{Draft}
 use Rattle.model.specs.declared.slot.Slot.{Slot}
 use Rattle.model.specs.declared.slot.Master.{Master}
 use Rattle.model.specs.declared.slot.Hold.{Hold}
-use Rattle.model.specs.declared.slot.Hold.TheVariants.{Unset, OnMaster, OnSlot}
-use Rattle.model.specs.Tools.{put, on_some, is_some}
-use Rattle.model.specs.Worlds.{Entry, Section, put_slot}
+use Rattle.model.specs.declared.slot.Hold.TheVariants.{OnSlot}
+use Rattle.model.specs.Tools.{put, on_some}
+use Rattle.model.specs.Worlds.{Entry, Section, World, world, with_slots, put_slot}
 use Rattle.model.specs.Drafts.{is_draft}
-use Rattle.model.specs.History.{Reader, Entries, History, draft_in, draft, with_reader}
-use Rattle.laws.proofs.Basics.{true_false, eq_case, put_case, HasVersion}
-use Rattle.laws.proofs.Invariant.{Ent, Ledger, StateOk, SlotWith, CoverOk, KeptState, HoldOk, SectionOk, Match, carry_match}
-
-pub is_some_false : {A : Type 0} (o : Option A) → is_some o ≡ false → o ≡ None
-is_some_false None q = refl
-is_some_false (Some x) q = true_false true refl q
+use Rattle.model.specs.History.{Reader, Entries, History, draft_in, draft, with_reader, stored}
+use Rattle.laws.proofs.Basics.{eq_case, put_case, HasVersion}
+use Rattle.laws.proofs.Invariant.{Ent, Ledger, StateAt, SlotsOk, DraftsOk, SlotWith, CoverOk, KeptState, HoldOk, Base, base, SectionOk, Match, Inv, carry_sections}
 
 -- the drafts are the same if the one section that changed keeps its own
 pub same_drafts : (h : History) (u : ℕ) (q : Option Reader) → ((r : ℕ) → draft_in q r ≡ draft_in (h.section u) r) → draft (with_reader h u q) ≡ draft h
@@ -26,65 +22,95 @@ same_drafts h u q f =
     (λ e. subst (λ y. draft_in q r ≡ draft_in (h.section y) r) (sym e) (f r)) (λ _. refl)))
 
 pub raise : {es : Entries} {high : ℕ} (high' : ℕ) → Ledger es high → high ≤ high' → Ledger es high'
-raise high' l le = record { unique = l.unique; newest = l.newest; bound = omega (arith, l.bound, le) }
+raise high' l le = record { unique = l.unique; newest = l.newest; bound = omega arith }
 
--- a slot that is kept for the version v stays so
-abbrev pub Keeps : ℕ → ℕ → (ℕ → ℕ → Option Slot) → (ℕ → ℕ → Option Slot) → Type 0
-Keeps s v slot slot' =
-    (o p : ℕ) (sl : Slot) → slot o p ≡ Some sl → KeptState s v sl.stage
-    → (x : Slot) × (slot' o p ≡ Some x) × (x.number ≡ sl.number) × KeptState s v x.stage
+-- each slot at a stage of which P holds is again in its place, of its record and at such a stage
+abbrev pub Carried : (Stage → Type 0) → (ℕ → ℕ → Option Slot) → (ℕ → ℕ → Option Slot) → Type 0
+Carried P slot slot' =
+    (o p : ℕ) (sl : Slot) → slot o p ≡ Some sl → P sl.stage → (x : Slot) × (slot' o p ≡ Some x) × (x.number ≡ sl.number) × P x.stage
 
-pub carry_hold : (ms : ℕ → Master) (slot slot' : ℕ → ℕ → Option Slot) (s r v : ℕ) → Keeps s v slot slot' → (x : Hold) → HoldOk ms slot s r v x → HoldOk ms slot' s r v x
-carry_hold ms slot slot' s r v f Unset k = k
-carry_hold ms slot slot' s r v f (OnMaster q) k = k
-carry_hold ms slot slot' s r v f (OnSlot o p) k =
-    let g = f o p k.0 k.1 k.3 in (g.0, g.1, g.2 ∙ k.2, g.3)
+pub carry_hold : (ms : ℕ → Master) (slot slot' : ℕ → ℕ → Option Slot) (s r v : ℕ) → Carried (KeptState s v) slot slot' → (x : Hold) → HoldOk ms slot s r v x → HoldOk ms slot' s r v x
+carry_hold ms slot slot' s r v f (OnSlot o p) k = let g = f o p k.0 k.1 k.3 in (g.0, g.1, g.2 ∙ k.2, g.3)
+carry_hold ms slot slot' s r v f _ k = k
+
+pub carry_with : (slot slot' : ℕ → ℕ → Option Slot) (r v : ℕ) → Carried (HasVersion v) slot slot' → SlotWith slot r v → SlotWith slot' r v
+carry_with slot slot' r v f s = let g = f s.o s.p s.sl s.there s.version in record { o = s.o; p = s.p; sl = g.0; there = g.1; number = g.2 ∙ s.number; version = g.3 }
+
+pub carry_cover : (ents : ℕ → Entries) (ms : ℕ → Master) (W : ℕ) (slot slot' : ℕ → ℕ → Option Slot) → ((v : ℕ) → Carried (HasVersion v) slot slot') → CoverOk ents ms W slot → CoverOk ents ms W slot'
+carry_cover ents ms W slot slot' f c r e k = ⊎_elim (λ a. inl a) (⊎_elim (λ s. inr (inl (carry_with slot slot' r e.version (f e.version) s))) (λ n. inr (inr n))) (c r e k)
 
 module _ (seen : ℕ → ℕ → Entry) where
-  pub put_match : (high W : ℕ) (ents : ℕ → Entries) (ms : ℕ → Master) (slot : ℕ → ℕ → Option Slot) (ws : ℕ → Option Section) (hs : ℕ → Option Reader)
-      (u : ℕ) (s : Option Section) (q : Option Reader) → Match seen high W ents ms slot u s q
-      → ((o : ℕ) → Match seen high W ents ms slot o (ws o) (hs o))
-      → (o : ℕ) → Match seen high W ents ms slot o (put ws u s o) (put hs u q o)
-  put_match high W ents ms slot ws hs u s q m f o =
-      eq_case (λ b. Match seen high W ents ms slot o (cond b s (ws o)) (cond b q (hs o))) o u (λ e. subst (λ y. Match seen high W ents ms slot y s q) (sym e) m) (λ _. f o)
+  pub put_match : (b : Base) (ws : ℕ → Option Section) (hs : ℕ → Option Reader) (u : ℕ) (s : Option Section) (q : Option Reader) → Match seen b u s q
+      → ((o : ℕ) → Match seen b o (ws o) (hs o)) → (o : ℕ) → Match seen b o (put ws u s o) (put hs u q o)
+  put_match b ws hs u s q m f o =
+      eq_case (λ t. Match seen b o (cond t s (ws o)) (cond t q (hs o))) o u (λ e. subst (λ y. Match seen b y s q) (sym e) m) (λ _. f o)
 
-  pub carry_section : (high W : ℕ) (ents : ℕ → Entries) (ms : ℕ → Master) (slot : ℕ → ℕ → Option Slot)
-      (high' W' : ℕ) (ents' : ℕ → Entries) (ms' : ℕ → Master) (slot' : ℕ → ℕ → Option Slot) (u : ℕ) (s : Section) (rd : Reader)
-      → s.opening ≤ high' → W' ≤ s.opening
-      → ((r : ℕ) (e : Entry) → Ent (ents r) e → Ent (ents' r) e)
-      → ((r : ℕ) (e : Entry) → Ent (ents' r) e → Ent (ents r) e ⊎ (s.opening < e.version))
-      → ((r v : ℕ) (x : Hold) → v ≡ (seen rd.opened_at r).version → HoldOk ms slot s.opening r v x → HoldOk ms' slot' s.opening r v x)
-      → SectionOk seen high W ents ms slot u s rd → SectionOk seen high' W' ents' ms' slot' u s rd
-  carry_section high W ents ms slot high' W' ents' ms' slot' u s rd a b c d f ok =
+  -- An open section is carried over: the entries stay, new ones are above its opening, and its holds are kept.
+  pub carry_section : {a : Base} (b : Base) {u : ℕ} {s : Section} {rd : Reader} → SectionOk seen a u s rd → s.opening ≤ b.high → b.watermark ≤ s.opening
+      → ((r : ℕ) (e : Entry) → Ent (a.entries r) e → Ent (b.entries r) e)
+      → ((r : ℕ) (e : Entry) → Ent (b.entries r) e → Ent (a.entries r) e ⊎ (s.opening < e.version))
+      → ((r v : ℕ) (x : Hold) → v ≡ (seen rd.opened_at r).version → HoldOk a.master a.slot s.opening r v x → HoldOk b.master b.slot s.opening r v x)
+      → SectionOk seen b u s rd
+  carry_section b {u} {s} {rd} ok high low c d f =
       record {
-        user = ok.user;
-        opening_low = a;
-        watermark_low = b;
-        seen_entry = λ r. c r (seen rd.opened_at r) (ok.seen_entry r);
-        seen_low = ok.seen_low;
-        seen_last = λ r e k. ⊎_elim (λ z. ok.seen_last r e z) (λ z. inr z) (d r e k);
+        sees = record {
+          user = ok.user;
+          opening_low = high;
+          watermark_low = low;
+          seen_entry = λ r. c r (seen rd.opened_at r) (ok.seen_entry r);
+          seen_low = ok.seen_low;
+          seen_last = λ r e k. ⊎_elim (λ z. ok.seen_last r e z) (λ z. inr z) (d r e k);
+        };
         holds = λ i r v q. (let g = ok.holds i r v q in (g.0, f r v (s.hold i) g.0 g.1));
       }
 
--- a slot with a version still has it
-abbrev pub Shows : (ℕ → ℕ → Option Slot) → (ℕ → ℕ → Option Slot) → Type 0
-Shows slot slot' =
-    (o p v : ℕ) (sl : Slot) → slot o p ≡ Some sl → HasVersion sl.stage v
-    → (x : Slot) × (slot' o p ≡ Some x) × (x.number ≡ sl.number) × HasVersion x.stage v
+  -- the sections' part where the entries and the watermark stay
+  pub keep_sections : {w : World} {h : History} → Inv seen w h → (high : ℕ) (ms : ℕ → Master) (slot : ℕ → ℕ → Option Slot) → w.highest ≤ high
+      → ((u : ℕ) (s : Section) (rd : Reader) → SectionOk seen (base w h) u s rd
+      → (r v : ℕ) (x : Hold) → v ≡ (seen rd.opened_at r).version → HoldOk w.master w.slot s.opening r v x → HoldOk ms slot s.opening r v x)
+      → (u : ℕ) → Match seen (record (base w h) { high = high; master = ms; slot = slot }) u (w.section u) (h.section u)
+  keep_sections {w} {h} inv high ms slot le f =
+      carry_sections seen inv _ (λ u s rd _ ok. carry_section _ ok (omega arith) ok.watermark_low (λ r e z. z) (λ r e z. inl z) (f u s rd ok))
 
-pub carry_with : (slot slot' : ℕ → ℕ → Option Slot) (r v : ℕ) → Shows slot slot' → SlotWith slot r v → SlotWith slot' r v
-carry_with slot slot' r v f s =
-    let g = f s.o s.p v s.sl s.there s.version in
-    record { o = s.o; p = s.p; sl = g.0; there = g.1; number = g.2 ∙ s.number; version = g.3 }
+  -- where only slots change, and each that a section holds is kept
+  pub keep_slots : {w : World} {h : History} → Inv seen w h → (slot : ℕ → ℕ → Option Slot) → ((s v : ℕ) → w.watermark ≤ s → Carried (KeptState s v) w.slot slot)
+      → (u : ℕ) → Match seen (base (with_slots w slot) h) u (w.section u) (h.section u)
+  keep_slots {w} {h} inv slot f =
+      keep_sections inv w.highest w.master slot (omega arith) (λ _ s _ ok r v x _ z. carry_hold w.master w.slot slot s.opening r v (f s.opening v ok.watermark_low) x z)
 
-pub carry_cover : (ents : ℕ → Entries) (ms : ℕ → Master) (W : ℕ) (slot slot' : ℕ → ℕ → Option Slot) → Shows slot slot' → CoverOk ents ms W slot → CoverOk ents ms W slot'
-carry_cover ents ms W slot slot' f c r e k = ⊎_elim (λ a. inl a) (λ b. inr (⊎_elim (λ s. inl (carry_with slot slot' r e.version f s)) (λ n. inr n) b)) (c r e k)
+  -- slots, drafts and sections change
+  pub new_slots : {w : World} {h : History} → Inv seen w h → (ws : ℕ → Option Section) (oldest : ℕ → ℕ) (slot : ℕ → ℕ → Option Slot) (hs : ℕ → Option Reader)
+      → SlotsOk h.entries w.master (draft (record h { section = hs })) slot → DraftsOk (draft (record h { section = hs })) slot → CoverOk h.entries w.master w.watermark slot
+      → ((u : ℕ) → Match seen (base (with_slots w slot) h) u (ws u) (hs u))
+      → Inv seen (world w.home w.highest w.tick w.watermark w.master ws oldest slot) (record h { section = hs })
+  new_slots inv ws oldest slot hs slots drafts cover sections =
+      record { ledgers = inv.ledgers; watermark_low = inv.watermark_low; masters = inv.masters; slots = slots; drafts = drafts; cover = cover; sections = sections }
+
+  -- sections change and the highest stamp rises, and the drafts are the same
+  pub new_sections : {w : World} {h : History} → Inv seen w h → (high : ℕ) (ws : ℕ → Option Section) (hs : ℕ → Option Reader) → w.highest ≤ high
+      → draft (record h { section = hs }) ≡ draft h
+      → ((u : ℕ) → Match seen (record (base w h) { high = high }) u (ws u) (hs u))
+      → Inv seen (world w.home high w.tick w.watermark w.master ws w.oldest w.slot) (record h { section = hs })
+  new_sections {w} {h} inv high ws hs le same m =
+      record {
+        ledgers = λ r. raise high (inv.ledgers r) le;
+        watermark_low = omega arith;
+        masters = inv.masters;
+        slots = subst (λ d. SlotsOk h.entries w.master d w.slot) (sym same) inv.slots;
+        drafts = subst (λ d. DraftsOk d w.slot) (sym same) inv.drafts;
+        cover = inv.cover;
+        sections = m;
+      }
+
+-- the history after an accepted commit of u that answers c
+abbrev pub with_commit : History → ℕ → ℕ → History
+with_commit h u c = record { entries = λ r. stored c (draft h u r) (h.entries r); section = put h.section u None }
 
 -- of a slot's state only a draft looks at the drafts
-pub carry_state : (es : Entries) (mv : ℕ) (d d' : Option Body) (b : Body) (st : Stage) → (is_draft st ≡ true → d ≡ Some b → d' ≡ Some b) → StateOk es mv d b st → StateOk es mv d' b st
-carry_state es mv d d' b Draft f k = f refl k
-carry_state es mv d d' b (Live v) f k = k
-carry_state es mv d d' b (Retired v t) f k = k
+pub carry_state : (ents : ℕ → Entries) (ms : ℕ → Master) (drafts drafts' : ℕ → ℕ → Option Body) (o : ℕ) (sl : Slot) (st : Stage)
+    → (is_draft st ≡ true → drafts o sl.number ≡ Some sl.body → drafts' o sl.number ≡ Some sl.body) → StateAt ents ms drafts o sl st → StateAt ents ms drafts' o sl st
+carry_state ents ms drafts drafts' o sl Draft f k = f refl k
+carry_state ents ms drafts drafts' o sl _ f k = k
 
 pub put_slot_case : (P : Option Slot → Type 0) (f : ℕ → ℕ → Option Slot) (u p : ℕ) (s : Option Slot) (o q : ℕ)
     → (o ≡ u → q ≡ p → P s) → (((o ≡ u) × (q ≡ p) → ⊥) → P (f o q)) → P (put_slot f u p s o q)
@@ -95,7 +121,7 @@ put_slot_case P f u p s o q yes' no' =
 
 -- The draft of r of u's section has become what t makes of it.
 abbrev pub redraft : ℕ → (Option Body → Option Body) → Reader → Reader
-redraft r t s = record { opened_at = s.opened_at; draft = put s.draft r (t (s.draft r)); hold = s.hold }
+redraft r t s = record s { draft = put s.draft r (t (s.draft r)) }
 
 pub redraft_case : (P : Option Body → Type 0) (h : History) (u r : ℕ) (t : Option Body → Option Body) (rd : Reader) → h.section u ≡ Some rd → (o a : ℕ)
     → (o ≡ u → a ≡ r → P (t (draft h u r))) → (((o ≡ u) × (a ≡ r) → ⊥) → P (draft h o a))
@@ -108,24 +134,18 @@ redraft_case P h u r t rd is o a yes' no' =
     (λ n. no' (λ z. n z.0))
 
 -- the sections' part, with other slots and u's drafts changed
-pub redraft_match : (seen : ℕ → ℕ → Entry) (high W : ℕ) (ents : ℕ → Entries) (ms : ℕ → Master) (slot slot' : ℕ → ℕ → Option Slot) (ws : ℕ → Option Section) (hs : ℕ → Option Reader)
-    (u r : ℕ) (t : Option Body → Option Body) → ((s v : ℕ) → Keeps s v slot slot')
-    → ((o : ℕ) → Match seen high W ents ms slot o (ws o) (hs o))
-    → (o : ℕ) → Match seen high W ents ms slot' o (ws o) (put hs u (on_some (redraft r t) (hs u)) o)
-redraft_match seen high W ents ms slot slot' ws hs u r t f m o =
-    eq_case (λ b. Match seen high W ents ms slot' o (ws o) (cond b (on_some (redraft r t) (hs u)) (hs o))) o u
-    (λ e. subst (λ y. Match seen high W ents ms slot' y (ws y) (on_some (redraft r t) (hs u))) (sym e) (again (ws u) (hs u) (keep u (ws u) (hs u) (m u))))
-    (λ _. keep o (ws o) (hs o) (m o))
+pub redraft_match : (seen : ℕ → ℕ → Entry) {w : World} {h : History} → Inv seen w h → (slot' : ℕ → ℕ → Option Slot) (u r : ℕ) (t : Option Body → Option Body)
+    → ((s v : ℕ) → Carried (KeptState s v) w.slot slot')
+    → (o : ℕ) → Match seen (base (with_slots w slot') h) o (w.section o) (put h.section u (on_some (redraft r t) (h.section u)) o)
+redraft_match seen {w} {h} inv slot' u r t f o =
+    put_case (λ q. Match seen (base (with_slots w slot') h) o (w.section o) q) h.section u (on_some (redraft r t) (h.section u)) o
+    (λ e. subst (λ y. Match seen (base (with_slots w slot') h) o (w.section o) (on_some (redraft r t) (h.section y))) e (again (w.section o) (h.section o) (keep o)))
+    (λ _. keep o)
   where
-    keep : (o : ℕ) (a : Option Section) (q : Option Reader) → Match seen high W ents ms slot o a q → Match seen high W ents ms slot' o a q
-    keep o =
-        carry_match seen high W ents ms slot high W ents ms slot' o
-        (λ s rd ok. carry_section seen high W ents ms slot high W ents ms slot' o s rd ok.opening_low ok.watermark_low (λ r e z. z) (λ r e z. inl z)
-        (λ r v x _ z. carry_hold ms slot slot' s.opening r v (f s.opening v) x z) ok)
+    keep : (o : ℕ) → Match seen (base (with_slots w slot') h) o (w.section o) (h.section o)
+    keep = keep_slots seen inv slot' (λ s v _. f s v)
 
-    again : (a : Option Section) (q : Option Reader) → Match seen high W ents ms slot' u a q → Match seen high W ents ms slot' u a (on_some (redraft r t) q)
-    again None None k = k
-    again None (Some rd) k = absurd k
-    again (Some s) None k = absurd k
-    again (Some s) (Some rd) ok =
-        record { user = ok.user; opening_low = ok.opening_low; watermark_low = ok.watermark_low; seen_entry = ok.seen_entry; seen_low = ok.seen_low; seen_last = ok.seen_last; holds = ok.holds }
+    again : (a : Option Section) (q : Option Reader) → Match seen (base (with_slots w slot') h) o a q → Match seen (base (with_slots w slot') h) o a (on_some (redraft r t) q)
+    again a None k = k
+    again None (Some rd) k = k
+    again (Some s) (Some rd) ok = record { sees = ok.sees; holds = ok.holds }

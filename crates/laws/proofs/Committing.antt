@@ -1,22 +1,22 @@
 -- The turn of a commit.
-use Rattle.std.proofs.Common.{◌≡◌, ℕ, ◌<◌, ◌≤◌, cond, eqb, leb, ◌⊎◌, Some, None, Option, sym, refl, ap, ◌∙◌, subst, inl, inr, ⊎_elim, arith}
+use Rattle.std.proofs.Common.{◌≡◌, ℕ, ◌<◌, ◌≤◌, cond, eqb, ◌⊎◌, Some, None, Option, sym, refl, ap, ◌∙◌, subst, inl, inr, ⊎_elim, arith}
 use mathlib.Core.Path.{fun_ext}
-use Rattle.interfaces.specs.Stamps.{top}
+use Rattle.std.proofs.lemmas.Bool.{cond_both}
 use Rattle.model.specs.declared.body.Body.{Body}
 use Rattle.model.specs.declared.slot.Stage.{Stage}
 use Rattle.model.specs.declared.slot.Stage.TheVariants.{Draft, Live, Retired}
 use Rattle.model.specs.declared.slot.Slot.{Slot}
-use Rattle.model.specs.declared.refusal.Refusal.TheVariants.{StampsSpent}
 use Rattle.model.specs.Tools.{put, on_some, is_some}
 use Rattle.model.specs.Worlds.{Entry, World, master_entry, with_section, with_highest, with_slots}
 use Rattle.model.specs.Calls.{Commit}
-use Rattle.model.specs.Drafts.{has_draft, has_drafts, settled, settled_stage}
-use Rattle.model.specs.Steps.{settle, commit_drafts, commit_step}
+use Rattle.model.specs.Drafts.{has_draft, settled, settled_stage}
+use Rattle.model.specs.Steps.{settle, commit_step}
 use Rattle.model.specs.History.{Entries, History, draft_in, draft, with_reader, stored}
-use Rattle.laws.proofs.Basics.{none_some, eq_case, bool_case, unless_case, section_case, on_some_some, HasVersion}
-use Rattle.laws.proofs.Invariant.{entry, Ent, Ledger, Newer, StateOk, SlotsOk, draft_slot, DraftsOk, SlotWith, CoverOk, KeptState, Inv, Good, carry_match}
+use Rattle.laws.proofs.Basics.{eq_case, on_some_some, HasVersion}
+use Rattle.laws.proofs.Invariant.{entry, Ent, Ledger, Newer, StateOk, StateAt, SlotOk, SlotsOk, draft_slot, DraftsOk, Covered, CoverOk, KeptState, Base, base, Inv, Good, carry_sections}
 use Rattle.laws.proofs.Reading.{no_drafts_here, has_draft_is}
-use Rattle.laws.proofs.Carrying.{same_drafts, carry_hold, put_match, carry_section, carry_with}
+use Rattle.laws.proofs.Carrying.{Carried, with_commit, same_drafts, carry_hold, put_match, carry_section, new_sections, carry_with}
+use Rattle.laws.proofs.Cases.{commit_cases}
 
 -- What a commit at c does to the entries of a record.
 
@@ -30,19 +30,19 @@ ent_new c (Some b) es e (inl k) = inr (b, refl, k)
 ent_new c (Some b) es e (inr k) = inl k
 
 ledger_new : (c : ℕ) (d : Option Body) (es : Entries) (high : ℕ) → high < c → Ledger es high → Ledger (stored c d es) c
-ledger_new c None es high lt l = record { unique = l.unique; newest = l.newest; bound = omega (arith, l.bound, lt) }
+ledger_new c None es high lt l = record { unique = l.unique; newest = l.newest; bound = omega arith }
 ledger_new c (Some b) es high lt l =
     record {
       unique = λ e f. elim [
         | inl p ↦ elim [ inl q ↦ (λ _. p ∙ sym q) | inr q ↦ (λ v. absurd (old f q (sym v ∙ ap (λ x. x.version) p))) ]
         | inr p ↦ elim [ inl q ↦ (λ v. absurd (old e p (v ∙ ap (λ x. x.version) q))) | inr q ↦ (λ v. l.unique e f p q v) ]
       ];
-      newest = λ e. elim [ inl p ↦ subst (λ x. x.version ≤ c) (sym p) (omega arith) | inr p ↦ omega (arith, l.newest e p, l.bound, lt) ];
+      newest = λ e. elim [ inl p ↦ subst (λ x. x.version ≤ c) (sym p) (omega arith) | inr p ↦ omega (arith, l.newest e p) ];
       bound = omega arith;
     }
   where
     old : (e : Entry) → Ent es e → e.version ≡ c → ⊥
-    old e k v = omega (arith, l.newest e k, l.bound, lt, v)
+    old e k v = omega (arith, l.newest e k)
 
 newer_old : (c : ℕ) (d : Option Body) (es : Entries) (v t : ℕ) → Newer es v t → Newer (stored c d es) v t
 newer_old c d es v t n = (n.0, ent_old c d es n.0 n.1, n.2, n.3)
@@ -52,9 +52,9 @@ live_state : (c : ℕ) (d : Option Body) (es : Entries) (high mv : ℕ) (t t' : 
     → StateOk es mv t b (Live v) → StateOk (stored c d es) mv t' b (cond (is_some d) (Retired v c) (Live v))
 live_state c None es high mv t t' b v lt l k = k
 live_state c (Some x) es high mv t t' b v lt l k =
-    (inr (inl (sym k)), inr (entry c x, inl refl, (let q : es.last.version ≡ v = ap (λ e. e.version) k in omega (arith, q, l.bound, lt)), omega arith))
+    (inr (inl (sym k)), inr (entry c x, inl refl, (let q : es.last.version ≡ v = ap (λ e. e.version) k in omega arith), omega arith))
 
-module _ (seen : ℕ → ℕ → Entry) (w : World) (h : History) (inv : Inv seen w h) (k : ℕ) (u c : ℕ) (lt : w.highest < c) where
+module _ (seen : ℕ → ℕ → Entry) (w : World) (h : History) (inv : Inv seen w h) (u c : ℕ) (lt : w.highest < c) where
   abbrev stage' : ℕ → ℕ → Stage → Stage
   stage' o r st = settled_stage (eqb o u) (has_draft (w.slot u) (w.oldest u) r) c st
 
@@ -62,23 +62,21 @@ module _ (seen : ℕ → ℕ → Entry) (w : World) (h : History) (inv : Inv see
   abbrev became : ℕ → Slot → Slot
   became o sl = settled (w.slot u) (w.oldest u) (eqb o u) c sl
 
-  slot' : ℕ → ℕ → Option Slot
+  abbrev slot' : ℕ → ℕ → Option Slot
   slot' = settle w u c
 
-  ents' : ℕ → Entries
+  abbrev ents' : ℕ → Entries
   ents' r = stored c (draft h u r) (h.entries r)
 
-  table' : ℕ → ℕ → Option Body
+  abbrev table' : ℕ → ℕ → Option Body
   table' = draft (with_reader h u None)
 
-  state' : (o : ℕ) (sl : Slot) → (st : Stage) → StateOk (h.entries sl.number) (w.master sl.number).version (draft h o sl.number) sl.body st
-      → StateOk (ents' sl.number) (w.master sl.number).version (table' o sl.number) sl.body (stage' o sl.number st)
-  unfolding ents' table'
+  state' : (o : ℕ) (sl : Slot) (st : Stage) → StateAt h.entries w.master (draft h) o sl st → StateAt ents' w.master table' o sl (stage' o sl.number st)
   state' o sl Draft ok =
       eq_case (λ b. StateOk (ents' sl.number) (w.master sl.number).version (draft_in (cond b None (h.section o)) sl.number) sl.body (cond b (Live c) Draft)) o u
-      (λ e. ap (λ d. (stored c d (h.entries sl.number)).last) (ap (λ y. draft h y sl.number) (sym e) ∙ ok)) (λ _. ok)
+      (λ e. cc) (λ _. ok)
   state' o sl (Live v) ok =
-      subst (λ t. StateOk (ents' sl.number) (w.master sl.number).version (table' o sl.number) sl.body (cond t (Retired v c) (Live v))) (sym (has_draft_is seen w h inv u sl.number))
+      subst (λ t. StateAt ents' w.master table' o sl (cond t (Retired v c) (Live v))) (sym (has_draft_is seen w h inv u sl.number))
       (live_state c (draft h u sl.number) (h.entries sl.number) w.highest (w.master sl.number).version (draft h o sl.number) (table' o sl.number) sl.body v lt (inv.ledgers sl.number) ok)
   state' o sl (Retired v t) ok = (
     ent_old c (draft h u sl.number) (h.entries sl.number) (entry v sl.body) ok.0,
@@ -86,44 +84,39 @@ module _ (seen : ℕ → ℕ → Entry) (w : World) (h : History) (inv : Inv see
   )
 
   slots' : SlotsOk ents' w.master table' slot'
-  unfolding slot'
   slots' o p sl e =
       let g = on_some_some (became o) (w.slot o p) sl e in
       let q = inv.slots o p g.0 g.1 in
-      (q.0, q.1, subst (λ x. x.number < 64) g.2 q.2, subst (λ x. StateOk (ents' x.number) (w.master x.number).version (table' o x.number) x.body x.stage) g.2 (state' o g.0 g.0.stage q.3))
+      subst (SlotOk ents' w.master table' o p) g.2 (q.0, q.1, q.2, state' o g.0 g.0.stage q.3)
 
   drafts' : DraftsOk table' slot'
-  unfolding table' slot'
   drafts' o a b =
-      eq_case (λ t. draft_in (cond t None (h.section o)) a ≡ Some b → (p : ℕ) × (on_some (λ sl. record { number = sl.number; body = sl.body; stage = stage' o sl.number sl.stage }) (w.slot o p) ≡ Some (draft_slot a b))) o u
-      (λ _ e. none_some b e)
+      eq_case (λ t. draft_in (cond t None (h.section o)) a ≡ Some b → (p : ℕ) × (slot' o p ≡ Some (draft_slot a b))) o u
+      (λ _ e. cc)
       (λ n e. (let s = inv.drafts o a b e in (
         s.0,
         ap (on_some (became o)) s.1
             ∙ eq_case (λ t. Some (record { number = a; body = b; stage = cond t (Live c) Draft }) ≡ Some (draft_slot a b)) o u (λ y. absurd (n y)) (λ _. refl),
       )))
 
-  version' : (o r v : ℕ) (st : Stage) → HasVersion st v → HasVersion (stage' o r st) v
-  version' o r v Draft x = absurd x
-  version' o r v (Live y) x = bool_case (λ t. HasVersion (cond t (Retired y c) (Live y)) v) (has_draft (w.slot u) (w.oldest u) r) (λ _. x) (λ _. x)
-  version' o r v (Retired y t) x = x
+  -- what no draft has, and a live slot that retires keeps, a slot keeps
+  stage_kept : (o r : ℕ) (P : Stage → Type 0) → (P Draft → ⊥) → ((v : ℕ) → P (Live v) → P (Retired v c)) → (st : Stage) → P st → P (stage' o r st)
+  stage_kept o r P no' retire Draft x = absurd (no' x)
+  stage_kept o r P no' retire (Live v) x = cond_both (has_draft (w.slot u) (w.oldest u) r) (Retired v c) (Live v) P (λ _. retire v x) (λ _. x)
+  stage_kept o r P no' retire (Retired v t) x = x
 
-  kept' : (o r s v : ℕ) → s < c → (st : Stage) → KeptState s v st → KeptState s v (stage' o r st)
-  kept' o r s v le Draft x = absurd x
-  kept' o r s v le (Live y) x = bool_case (λ t. KeptState s v (cond t (Retired y c) (Live y))) (has_draft (w.slot u) (w.oldest u) r) (λ _. (x, le)) (λ _. x)
-  kept' o r s v le (Retired y t) x = x
+  kept' : (P : Stage → Type 0) → (P Draft → ⊥) → ((v : ℕ) → P (Live v) → P (Retired v c)) → Carried P w.slot slot'
+  kept' P no' retire o p sl e x = (became o sl, ap (on_some (became o)) e, refl, stage_kept o sl.number P no' retire sl.stage x)
 
   cover' : CoverOk ents' w.master w.watermark slot'
-  unfolding ents' slot'
   cover' r e z = ⊎_elim old fresh' (ent_new c (draft h u r) (h.entries r) e z)
     where
-      old : Ent (h.entries r) e → ((w.master r).version ≡ e.version) ⊎ (SlotWith slot' r e.version ⊎ Newer (ents' r) e.version w.watermark)
+      old : Ent (h.entries r) e → Covered ents' w.master w.watermark slot' r e
       old y =
-          ⊎_elim (λ m. inl m) (λ t. inr (⊎_elim
-          (λ s. inl (carry_with w.slot slot' r e.version (λ o p v sl q x. (became o sl, ap (on_some (became o)) q, refl, version' o sl.number v sl.stage x)) s))
-          (λ n. inr (newer_old c (draft h u r) (h.entries r) e.version w.watermark n)) t)) (inv.cover r e y)
+          ⊎_elim (λ m. inl m) (⊎_elim (λ s. inr (inl (carry_with w.slot slot' r e.version (kept' (HasVersion e.version) (λ x. x) (λ _ x. x)) s)))
+          (λ n. inr (inr (newer_old c (draft h u r) (h.entries r) e.version w.watermark n)))) (inv.cover r e y)
 
-      fresh' : (b : Body) × (draft h u r ≡ Some b) × (e ≡ entry c b) → ((w.master r).version ≡ e.version) ⊎ (SlotWith slot' r e.version ⊎ Newer (ents' r) e.version w.watermark)
+      fresh' : (b : Body) × (draft h u r ≡ Some b) × (e ≡ entry c b) → Covered ents' w.master w.watermark slot' r e
       fresh' y =
           let s = inv.drafts u r y.0 y.1 in
           inr (inl (record {
@@ -132,55 +125,36 @@ module _ (seen : ℕ → ℕ → Entry) (w : World) (h : History) (inv : Inv see
             sl = became u (draft_slot r y.0);
             there = ap (on_some (became u)) s.1;
             number = refl;
-            version = eq_case (λ t. HasVersion (cond t (Live c) Draft) e.version) u u (λ _. ap (λ x. x.version) (sym y.2)) (λ n. absurd (n refl));
+            version = eq_case (λ t. HasVersion e.version (cond t (Live c) Draft)) u u (λ _. ap (λ x. x.version) (sym y.2)) (λ n. absurd (n refl));
           }))
 
   commit_inv : Inv seen (with_highest (with_section (with_slots w (settle w u c)) u None) c)
-      (record { entries = λ r. stored c (draft h u r) (h.entries r); section = put h.section u None })
-  unfolding slot' ents' table'
+      (with_commit h u c)
   commit_inv =
       record {
         ledgers = λ r. ledger_new c (draft h u r) (h.entries r) w.highest lt (inv.ledgers r);
-        watermark_low = omega (arith, inv.watermark_low, lt);
+        watermark_low = omega arith;
         masters = λ r. record { is_entry = ent_old c (draft h u r) (h.entries r) (master_entry w r) (inv.masters r).is_entry; low = (inv.masters r).low };
         slots = slots';
         drafts = drafts';
         cover = cover';
-        sections = put_match seen c w.watermark ents' w.master slot' w.section h.section u None None tt (λ o.
-            carry_match seen w.highest w.watermark h.entries w.master w.slot c w.watermark ents' w.master slot' o
-            (λ s rd ok. carry_section seen w.highest w.watermark h.entries w.master w.slot c w.watermark ents' w.master slot' o s rd
-            (omega (arith, ok.opening_low, lt)) ok.watermark_low
+        sections = put_match seen after w.section h.section u None None tt (carry_sections seen inv after (λ o s rd _ ok.
+            carry_section seen after ok (omega arith) ok.watermark_low
             (λ r e z. ent_old c (draft h u r) (h.entries r) e z)
-            (λ r e z. ⊎_elim (λ a. inl a) (λ y. inr (subst (λ x. s.opening < x.version) (sym y.2) (omega (arith, ok.opening_low, lt)))) (ent_new c (draft h u r) (h.entries r) e z))
-            (λ r v x _ z. carry_hold w.master w.slot slot' s.opening r v
-            (λ o p sl q y. (became o sl, ap (on_some (became o)) q, refl, kept' o sl.number s.opening v (omega (arith, ok.opening_low, lt)) sl.stage y)) x z) ok)
-            (w.section o) (h.section o) (inv.sections o));
+            (λ r e z. ⊎_elim (λ a. inl a) (λ y. inr (subst (λ x. s.opening < x.version) (sym y.2) (omega arith))) (ent_new c (draft h u r) (h.entries r) e z))
+            (λ r v x _ z. carry_hold w.master w.slot slot' s.opening r v (kept' (KeptState s.opening v) (λ y. y) (λ _ y. (y, omega arith))) x z)));
       }
+    where
+      after : Base
+      after = record (base w h) { high = c; entries = ents'; slot = slot' }
 
-module _ (seen : ℕ → ℕ → Entry) (w : World) (h : History) (inv : Inv seen w h) (k : ℕ) where
+module _ (seen : ℕ → ℕ → Entry) (w : World) (h : History) (inv : Inv seen w h) where
   -- a commit with no drafts closes the section
   idle_inv : (u : ℕ) → ((r : ℕ) → draft h u r ≡ None)
-      → Inv seen (with_section w u None) (record { entries = λ r. stored 0 (draft h u r) (h.entries r); section = put h.section u None })
+      → Inv seen (with_section w u None) (with_commit h u 0)
   idle_inv u none_there =
       subst (λ es. Inv seen (with_section w u None) (record { entries = es; section = put h.section u None })) (fun_ext (λ r. ap (λ d. stored 0 d (h.entries r)) (sym (none_there r))))
-      (record {
-        ledgers = inv.ledgers;
-        watermark_low = inv.watermark_low;
-        masters = inv.masters;
-        slots = subst (λ d. SlotsOk h.entries w.master d w.slot) (sym same) inv.slots;
-        drafts = subst (λ d. DraftsOk d w.slot) (sym same) inv.drafts;
-        cover = inv.cover;
-        sections = put_match seen w.highest w.watermark h.entries w.master w.slot w.section h.section u None None tt inv.sections;
-      })
-    where
-      same : draft (with_reader h u None) ≡ draft h
-      same = same_drafts h u None (λ r. sym (none_there r))
+      (new_sections seen inv w.highest _ _ (omega arith) (same_drafts h u None (λ r. sym (none_there r))) (put_match seen (base w h) w.section h.section u None None tt inv.sections))
 
-  pub commit_good : (c u : ℕ) → Good seen w.highest c k h (Commit u) (commit_step w c u)
-  unfolding commit_step
-  commit_good c u =
-      section_case (Good seen w.highest c k h (Commit u)) w (w.section u) _ (λ _. inv) (λ s _.
-      bool_case (λ b. Good seen w.highest c k h (Commit u) (commit_drafts w c u b)) (has_drafts (w.slot u) (w.oldest u))
-      (λ _. unless_case (Good seen w.highest c k h (Commit u)) w (leb top w.highest) StampsSpent _ (λ _. inv)
-      (λ _ next. commit_inv seen w h inv k u c next))
-      (λ e _. idle_inv u (no_drafts_here seen w h inv u e)))
+  pub commit_good : (k c u : ℕ) → Good seen w.highest c k h (Commit u) (commit_step w c u)
+  commit_good k c u = commit_cases (Good seen w.highest c k h (Commit u)) w (λ _ _. inv) c u (commit_inv seen w h inv u c) (λ e _. idle_inv u (no_drafts_here seen w h inv u e))

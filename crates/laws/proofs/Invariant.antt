@@ -1,5 +1,6 @@
 -- What holds between the store and the history of sections before each turn.
-use Rattle.std.proofs.Common.{◌≡◌, ℕ, ◌<◌, ◌≤◌, ◌⊎◌, Some, None, Option, sym, refl, subst}
+use Rattle.std.proofs.Common.{◌≡◌, ℕ, ◌<◌, ◌≤◌, ◌⊎◌, Some, None, Option, refl, subst}
+use mathlib.Core.Path.{subst₂}
 use Rattle.model.specs.declared.door.Door.TheVariants.{Host}
 use Rattle.model.specs.declared.body.Body.{Body}
 use Rattle.model.specs.declared.slot.Stage.{Stage}
@@ -12,7 +13,7 @@ use Rattle.model.specs.Worlds.{Entry, Section, World, master_entry}
 use Rattle.model.specs.Calls.{Call, turn}
 use Rattle.model.specs.Steps.{Outcome, Lawful}
 use Rattle.model.specs.History.{version_of, Reader, Entries, History, draft, fed}
-use Rattle.laws.proofs.Basics.{none_some, some_path, In, HasVersion}
+use Rattle.laws.proofs.Basics.{option_case, In, HasVersion}
 
 abbrev pub entry : ℕ → Body → Entry
 entry v b = record { version = v; body = b }
@@ -42,10 +43,15 @@ StateOk es mv d b Draft = d ≡ Some b
 StateOk es mv d b (Live v) = es.last ≡ entry v b
 StateOk es mv d b (Retired v t) = Ent es (entry v b) × ((v ≤ mv) ⊎ Newer es v t)
 
+-- of the slot sl of o's log, at the stage st
+abbrev pub StateAt : (ℕ → Entries) → (ℕ → Master) → (ℕ → ℕ → Option Body) → ℕ → Slot → Stage → Type 0
+StateAt ents ms drafts o sl st = StateOk (ents sl.number) (ms sl.number).version (drafts o sl.number) sl.body st
+
+abbrev pub SlotOk : (ℕ → Entries) → (ℕ → Master) → (ℕ → ℕ → Option Body) → ℕ → ℕ → Slot → Type 0
+SlotOk ents ms drafts o p sl = (o < 8) × (p < 8) × (sl.number < 64) × StateAt ents ms drafts o sl sl.stage
+
 abbrev pub SlotsOk : (ℕ → Entries) → (ℕ → Master) → (ℕ → ℕ → Option Body) → (ℕ → ℕ → Option Slot) → Type 0
-SlotsOk ents ms drafts slot =
-    (o p : ℕ) (sl : Slot) → slot o p ≡ Some sl
-    → (o < 8) × (p < 8) × (sl.number < 64) × StateOk (ents sl.number) (ms sl.number).version (drafts o sl.number) sl.body sl.stage
+SlotsOk ents ms drafts slot = (o p : ℕ) (sl : Slot) → slot o p ≡ Some sl → SlotOk ents ms drafts o p sl
 
 abbrev pub draft_slot : ℕ → Body → Slot
 draft_slot r b = record { number = r; body = b; stage = Draft }
@@ -61,13 +67,14 @@ pub record SlotWith (slot : ℕ → ℕ → Option Slot) (r v : ℕ) : Type 0 wh
   pub sl : Slot
   pub there : slot o p ≡ Some sl
   pub number : sl.number ≡ r
-  pub version : HasVersion sl.stage v
+  pub version : HasVersion v sl.stage
 
 -- Each entry is the master's, or in a slot, or a newer one is at most the watermark.
+abbrev pub Covered : (ℕ → Entries) → (ℕ → Master) → ℕ → (ℕ → ℕ → Option Slot) → ℕ → Entry → Type 0
+Covered ents ms W slot r e = ((ms r).version ≡ e.version) ⊎ (SlotWith slot r e.version ⊎ Newer (ents r) e.version W)
+
 abbrev pub CoverOk : (ℕ → Entries) → (ℕ → Master) → ℕ → (ℕ → ℕ → Option Slot) → Type 0
-CoverOk ents ms W slot =
-    (r : ℕ) (e : Entry) → Ent (ents r) e
-    → ((ms r).version ≡ e.version) ⊎ (SlotWith slot r e.version ⊎ Newer (ents r) e.version W)
+CoverOk ents ms W slot = (r : ℕ) (e : Entry) → Ent (ents r) e → Covered ents ms W slot r e
 
 -- a slot that a section opened at the stamp s holds for the version v: live, or retired after s
 abbrev pub KeptState : ℕ → ℕ → Stage → Type 0
@@ -75,28 +82,48 @@ KeptState s v Draft = ⊥
 KeptState s v (Live x) = x ≡ v
 KeptState s v (Retired x t) = (x ≡ v) × (s < t)
 
+pub kept_version : (s v : ℕ) (st : Stage) → KeptState s v st → HasVersion v st
+kept_version s v (Retired x t) k = k.0
+kept_version s v _ k = k
+
 abbrev pub HoldOk : (ℕ → Master) → (ℕ → ℕ → Option Slot) → ℕ → ℕ → ℕ → Hold → Type 0
 HoldOk ms slot s r v Unset = ⊥
 HoldOk ms slot s r v (OnMaster q) = (q ≡ r) × ((ms r).version ≡ v)
 HoldOk ms slot s r v (OnSlot o p) = (sl : Slot) × (slot o p ≡ Some sl) × (sl.number ≡ r) × KeptState s v sl.stage
 
+-- what the parts of the invariant look at: the stamps, entries, masters and slots of a world and a history
+pub record Base : Type 0 where
+  pub high : ℕ
+  pub watermark : ℕ
+  pub entries : ℕ → Entries
+  pub master : ℕ → Master
+  pub slot : ℕ → ℕ → Option Slot
+
+abbrev pub base : World → History → Base
+base w h = record { high = w.highest; watermark = w.watermark; entries = h.entries; master = w.master; slot = w.slot }
+
 -- seen k r is the last entry of r in the history before the turn at the position k
 module _ (seen : ℕ → ℕ → Entry) where
-  -- An open section: what it has seen of each record is an entry at most its opening stamp, and every newer entry is above that stamp.
-  pub record SectionOk (high W : ℕ) (ents : ℕ → Entries) (ms : ℕ → Master) (slot : ℕ → ℕ → Option Slot) (u : ℕ) (s : Section) (rd : Reader) : Type 0 where
+  -- What a section of u, opened at the stamp s and the position o, has seen of each record is an entry at most s, and every newer entry is above s.
+  pub record SeenOk (b : Base) (u s o : ℕ) : Type 0 where
     pub user : u < 8
-    pub opening_low : s.opening ≤ high
-    pub watermark_low : W ≤ s.opening
-    pub seen_entry : (r : ℕ) → Ent (ents r) (seen rd.opened_at r)
-    pub seen_low : (r : ℕ) → (seen rd.opened_at r).version ≤ s.opening
-    pub seen_last : (r : ℕ) (e : Entry) → Ent (ents r) e → (e.version ≤ (seen rd.opened_at r).version) ⊎ (s.opening < e.version)
-    pub holds : (i r v : ℕ) → rd.hold i ≡ version_of r v → (v ≡ (seen rd.opened_at r).version) × HoldOk ms slot s.opening r v (s.hold i)
+    pub opening_low : s ≤ b.high
+    pub watermark_low : b.watermark ≤ s
+    pub seen_entry : (r : ℕ) → Ent (b.entries r) (seen o r)
+    pub seen_low : (r : ℕ) → (seen o r).version ≤ s
+    pub seen_last : (r : ℕ) (e : Entry) → Ent (b.entries r) e → (e.version ≤ (seen o r).version) ⊎ (s < e.version)
 
-  abbrev pub Match : ℕ → ℕ → (ℕ → Entries) → (ℕ → Master) → (ℕ → ℕ → Option Slot) → ℕ → Option Section → Option Reader → Type 0
-  Match high W ents ms slot u None None = Unit {0}
-  Match high W ents ms slot u None (Some rd) = ⊥
-  Match high W ents ms slot u (Some s) None = ⊥
-  Match high W ents ms slot u (Some s) (Some rd) = SectionOk high W ents ms slot u s rd
+  -- An open section, and its holds on versions.
+  pub record SectionOk (b : Base) (u : ℕ) (s : Section) (rd : Reader) : Type 0 where
+    pub sees : SeenOk b u s.opening rd.opened_at
+    pub open sees use *
+    pub holds : (i r v : ℕ) → rd.hold i ≡ version_of r v → (v ≡ (seen rd.opened_at r).version) × HoldOk b.master b.slot s.opening r v (s.hold i)
+
+  abbrev pub Match : Base → ℕ → Option Section → Option Reader → Type 0
+  Match b u None None = Unit {0}
+  Match b u None (Some rd) = ⊥
+  Match b u (Some s) None = ⊥
+  Match b u (Some s) (Some rd) = SectionOk b u s rd
 
   pub record Inv (w : World) (h : History) : Type 0 where
     pub ledgers : (r : ℕ) → Ledger (h.entries r) w.highest
@@ -105,43 +132,40 @@ module _ (seen : ℕ → ℕ → Entry) where
     pub slots : SlotsOk h.entries w.master (draft h) w.slot
     pub drafts : DraftsOk (draft h) w.slot
     pub cover : CoverOk h.entries w.master w.watermark w.slot
-    pub sections : (u : ℕ) → Match w.highest w.watermark h.entries w.master w.slot u (w.section u) (h.section u)
+    pub sections : (u : ℕ) → Match (base w h) u (w.section u) (h.section u)
 
   -- what is to show of an outcome, under the stamp s after the highest; `fed` looks at no door
   abbrev pub Good : ℕ → ℕ → ℕ → History → Call → Outcome → Type 0
   Good highest s k h call out = Lawful highest s out.drawn → Inv out.after (fed k h (turn Host call out.answer))
 
   -- a section open in the store is open in the history
-  pub record Opened (high W : ℕ) (ents : ℕ → Entries) (ms : ℕ → Master) (slot : ℕ → ℕ → Option Slot) (u : ℕ) (s : Section) (q : Option Reader) : Type 0 where
+  pub record Opened (w : World) (h : History) (u : ℕ) (s : Section) : Type 0 where
     pub rd : Reader
-    pub is : q ≡ Some rd
-    pub ok : SectionOk high W ents ms slot u s rd
+    pub is : h.section u ≡ Some rd
+    pub ok : SectionOk (base w h) u s rd
 
-  pub both_open : (high W : ℕ) (ents : ℕ → Entries) (ms : ℕ → Master) (slot : ℕ → ℕ → Option Slot) (u : ℕ) (o : Option Section) (q : Option Reader)
-      → Match high W ents ms slot u o q → (s : Section) → o ≡ Some s → Opened high W ents ms slot u s q
-  both_open high W ents ms slot u None q m s e = none_some s e
-  both_open high W ents ms slot u (Some x) None m s e = absurd m
-  both_open high W ents ms slot u (Some x) (Some rd) m s e = record { rd = rd; is = refl; ok = subst (λ y. SectionOk high W ents ms slot u y rd) (some_path x s e) m }
+  module _ {w : World} {h : History} (inv : Inv w h) where
+    pub opened_here : (u : ℕ) (s : Section) → w.section u ≡ Some s → Opened w h u s
+    opened_here u s e =
+        option_case (λ q. Match (base w h) u (Some s) q → Opened w h u s) (h.section u) (λ _ m. absurd m) (λ rd i m. record { rd = rd; is = i; ok = m })
+        (subst (λ o. Match (base w h) u o (h.section u)) e (inv.sections u))
 
-  pub both_closed : (high W : ℕ) (ents : ℕ → Entries) (ms : ℕ → Master) (slot : ℕ → ℕ → Option Slot) (u : ℕ) (o : Option Section) (q : Option Reader)
-      → Match high W ents ms slot u o q → o ≡ None → q ≡ None
-  both_closed high W ents ms slot u None None m e = refl
-  both_closed high W ents ms slot u None (Some rd) m e = absurd m
-  both_closed high W ents ms slot u (Some x) q m e = none_some x (sym e)
+    pub closed_here : (u : ℕ) → w.section u ≡ None → h.section u ≡ None
+    closed_here u e =
+        option_case (λ q. Match (base w h) u None q → q ≡ None) (h.section u) (λ _ _. refl) (λ _ _ m. absurd m)
+        (subst (λ o. Match (base w h) u o (h.section u)) e (inv.sections u))
 
-  pub opened_here : {w : World} {h : History} → Inv w h → (u : ℕ) (s : Section) → w.section u ≡ Some s
-      → Opened w.highest w.watermark h.entries w.master w.slot u s (h.section u)
-  opened_here {w} {h} inv u s e = both_open w.highest w.watermark h.entries w.master w.slot u (w.section u) (h.section u) (inv.sections u) s e
+    -- of the reader that the history has open
+    pub section_here : (u : ℕ) (s : Section) (rd : Reader) → w.section u ≡ Some s → h.section u ≡ Some rd → SectionOk (base w h) u s rd
+    section_here u s rd e is = subst₂ (Match (base w h) u) e is (inv.sections u)
 
-  pub closed_here : {w : World} {h : History} → Inv w h → (u : ℕ) → w.section u ≡ None → h.section u ≡ None
-  closed_here {w} {h} inv u e = both_closed w.highest w.watermark h.entries w.master w.slot u (w.section u) (h.section u) (inv.sections u) e
-
-  -- the sections' part, where each open section is carried over and none opens or closes
-  pub carry_match : (high W : ℕ) (ents : ℕ → Entries) (ms : ℕ → Master) (slot : ℕ → ℕ → Option Slot)
-      (high' W' : ℕ) (ents' : ℕ → Entries) (ms' : ℕ → Master) (slot' : ℕ → ℕ → Option Slot) (u : ℕ)
-      → ((s : Section) (rd : Reader) → SectionOk high W ents ms slot u s rd → SectionOk high' W' ents' ms' slot' u s rd)
-      → (o : Option Section) (q : Option Reader) → Match high W ents ms slot u o q → Match high' W' ents' ms' slot' u o q
-  carry_match high W ents ms slot high' W' ents' ms' slot' u f None None m = tt
-  carry_match high W ents ms slot high' W' ents' ms' slot' u f None (Some rd) m = absurd m
-  carry_match high W ents ms slot high' W' ents' ms' slot' u f (Some s) None m = absurd m
-  carry_match high W ents ms slot high' W' ents' ms' slot' u f (Some s) (Some rd) m = f s rd m
+    -- each open section is carried over, and none opens or closes
+    pub carry_sections : (b : Base) → ((u : ℕ) (s : Section) (rd : Reader) → w.section u ≡ Some s → SectionOk (base w h) u s rd → SectionOk b u s rd)
+        → (u : ℕ) → Match b u (w.section u) (h.section u)
+    carry_sections b f u = go (w.section u) (h.section u) refl (inv.sections u)
+      where
+        go : (o : Option Section) (q : Option Reader) → w.section u ≡ o → Match (base w h) u o q → Match b u o q
+        go None None e m = tt
+        go None (Some rd) e m = absurd m
+        go (Some s) None e m = absurd m
+        go (Some s) (Some rd) e m = f u s rd e m

@@ -14,3 +14,4 @@ pub mod Writes
 pub mod Owning
 pub mod Ordering
 pub mod Going
+pub mod Cases

@@ -1,27 +1,25 @@
 -- Logs in order: what each call makes of a log is again a ring.
-use Rattle.std.proofs.Common.{◌≡◌, ℕ, suc, ◌-◌, ◌<◌, ◌≤◌, Bool, true, false, cond, not, ◌&&◌, eqb, ltb, leb, List, length, Some, None, Option, sym, refl, ap, ◌∙◌, subst, ⊎_elim, arith}
-use Rattle.std.proofs.lemmas.Bool.{cases_lt, ltb-true, ltb-false, lt-ltb, le-ltb, le-leb, lt-leb, and_from, and_left, and_right, not-true, not-false, not_from_true, not_from_false}
+use Rattle.std.proofs.Common.{◌≡◌, ℕ, suc, ◌-◌, ◌<◌, ◌≤◌, Bool, true, false, cond, not, ◌&&◌, ltb, leb, List, Some, None, Option, sym, refl, ap, ◌∙◌, subst, ⊎_elim, arith}
+use Rattle.std.proofs.lemmas.Bool.{cases_lt, ltb-true, ltb-false, lt-ltb, le-ltb, le-leb, lt-leb, and_from, and_left, and_right, not-true, not-false, not_from_true, not_from_false, cond_both}
 use Rattle.interfaces.specs.Homes.{Meaning}
-use Rattle.interfaces.specs.Stamps.{top}
 use Rattle.model.specs.declared.door.Door.{Door}
 use Rattle.model.specs.declared.body.Body.{Body}
 use Rattle.model.specs.declared.slot.Stage.{Stage}
 use Rattle.model.specs.declared.slot.Stage.TheVariants.{Draft, Live, Retired}
 use Rattle.model.specs.declared.slot.Slot.{Slot}
-use Rattle.model.specs.declared.refusal.Refusal.TheVariants.{OtherDoor, AlreadyOpen, NotServed, NoHold, BadRange, LockedByOther, NewerVersion, NoDraft, StampsSpent}
-use Rattle.model.specs.declared.answer.Collected.TheVariants.{Waits, Freed}
+use Rattle.model.specs.declared.refusal.Refusal.{Refusal}
 use Rattle.model.specs.Tools.{put, on_some, is_some}
-use Rattle.model.specs.Worlds.{World, first_hour, served, written, blank, put_slot}
-use Rattle.model.specs.Calls.{Call, Open, Find, Take, Lock, Put, Clear, Commit, Abort, Survey, Collect, Tick, collected, Turn, foreign}
+use Rattle.model.specs.Worlds.{World, first_hour, written, blank, put_slot}
+use Rattle.model.specs.Calls.{Call, Open, Find, Take, Lock, Put, Clear, Commit, Abort, Collect, Turn}
 use Rattle.model.specs.Versions.{place_of, newest}
-use Rattle.model.specs.Drafts.{is_draft, any_draft, draft_of, draft_age, has_draft, has_drafts, locked_by_other, free_age, edited, settled_stage, settled}
-use Rattle.model.specs.Steps.{Outcome, gives, bad_range, open_step, find_in, find_step, held, take_from, take_step, lock_at, lock_new, lock_step, edit, put_step, clear_step, settle, commit_drafts, commit_step, abort_step, survey_step, oldest_place, freed, collect_live, collect_stage, collect_slot, collect_step, own_step, step}
+use Rattle.model.specs.Drafts.{is_draft, any_draft, has_draft, free_age, edited, settled_stage, settled}
+use Rattle.model.specs.Steps.{Outcome, refuse, edit, settle, survey_step, oldest_place, own_step, step}
 use Rattle.laws.specs.Runs.{Turned, Reached, begun, turned}
 use Rattle.laws.specs.Laws.{Ring, LogsInOrder}
 use Rattle.laws.specs.Theorems.{OfEveryWorld}
-use Rattle.laws.proofs.Basics.{eq_case, bool_case, option_case, put_case, unless_case, fault_case, section_case, least_some, least_first}
+use Rattle.laws.proofs.Basics.{eq_case, bool_case, option_case, put_case, edited_same, least_some}
+use Rattle.laws.proofs.Cases.{step_cases, open_cases, find_cases, take_cases, lock_cases, put_cases, clear_cases, commit_cases, abort_cases, collect_cases}
 use Rattle.laws.proofs.Invariant.{draft_slot}
-use Rattle.interfaces.specs.Homes as home
 
 -- two tests that come out alike
 leb_same : (a b c d : ℕ) → (a ≤ b → c ≤ d) → (b < a → d < c) → leb a b ≡ leb c d
@@ -46,8 +44,8 @@ module _ (slots : ℕ → Option Slot) (first : ℕ) (r : Ring slots first) wher
   over_ring : (p : ℕ) (sl new : Slot) → slots p ≡ Some sl → is_draft sl.stage ≡ is_draft new.stage → Ring (put slots p (Some new)) first
   over_ring p sl new e d =
       same_ring (put slots p (Some new))
-      (λ q. put_case (λ x. is_some x ≡ is_some (slots q)) slots p (Some new) q (λ z. sym (ap (λ y. is_some (slots y)) z ∙ ap is_some e)) (λ _. refl))
-      (λ q. put_case (λ x. any_draft x ≡ any_draft (slots q)) slots p (Some new) q (λ z. sym (ap (λ y. any_draft (slots y)) z ∙ ap any_draft e ∙ d)) (λ _. refl))
+      (λ q. put_case (λ x. is_some x ≡ is_some (slots q)) slots p (Some new) q (λ z. cc) (λ _. refl))
+      (λ q. put_case (λ x. any_draft x ≡ any_draft (slots q)) slots p (Some new) q (λ z. cc) (λ _. refl))
 
   used_on : (f : Slot → Slot) (x : Option Slot) → is_some (on_some f x) ≡ is_some x
   used_on f None = refl
@@ -75,27 +73,27 @@ module _ (slots : ℕ → Option Slot) (first : ℕ) (r : Ring slots first) wher
       record {
         versions = r.versions;
         used = suc r.used;
-        fits = (omega (arith, r.fits.0), omega (arith, is, l.0));
+        fits = (omega arith, omega (arith, is, l.0));
         in_a_row = λ j h. put_case (λ x. is_some x ≡ ltb j (suc r.used)) slots (place_of first i) (Some sl) (place_of first j)
             (λ q. sym (lt-ltb j (suc r.used) (omega (arith, is, one_age first j i h l.0 q))))
-            (λ n. (let ne = other j n in r.in_a_row j h ∙ leb_same (suc j) r.used (suc j) (suc r.used) (λ z. omega arith) (λ z. omega (arith, z, ne))));
+            (λ n. (let ne = other j n in r.in_a_row j h ∙ leb_same (suc j) r.used (suc j) (suc r.used) (λ z. omega arith) (λ z. omega arith)));
         drafts_last = λ j h. put_case (λ x. any_draft x ≡ leb r.versions j) slots (place_of first i) (Some sl) (place_of first j)
-            (λ q. d ∙ sym (le-leb r.versions j (omega (arith, is, r.fits.0, one_age first j i (omega (arith, h, is, l.0)) l.0 q))))
-            (λ n. r.drafts_last j (omega (arith, h, other j n)));
+            (λ q. d ∙ sym (le-leb r.versions j (omega (arith, is, one_age first j i (omega (arith, is, l.0)) l.0 q))))
+            (λ n. r.drafts_last j (omega (arith, other j n)));
       }
     where
       free : ℕ → Bool
       free j = not (is_some (slots (place_of first j)))
 
-      l : (i < 8) × (free i ≡ true)
+      l : (i < 8) × (free i ≡ true) × ((j : ℕ) → j < i → free j ≡ false)
       l = least_some 8 free i e
 
       is : i ≡ r.used
       is =
           let above = ltb-false i r.used (sym (r.in_a_row i l.0) ∙ not-true (is_some (slots (place_of first i))) l.1) in
           ⊎_elim (λ h. (let k = r.used in
-          let z = ltb-true k k (sym (r.in_a_row k (omega (arith, h, l.0))) ∙ not-false (is_some (slots (place_of first k))) (least_first 8 free i e k h)) in
-          absurd (let f : ⊥ = omega (arith, z) in f))) (λ h. omega (arith, h, above)) (cases_lt r.used i)
+          let z = ltb-true k k (sym (r.in_a_row k (omega (arith, l.0))) ∙ not-false (is_some (slots (place_of first k))) (l.2 k h)) in
+          absurd (omega arith))) (λ h. omega arith) (cases_lt r.used i)
 
       other : (j : ℕ) → (place_of first j ≡ place_of first i → ⊥) → j ≡ r.used → ⊥
       other j n q = n (ap (place_of first) (q ∙ sym is))
@@ -106,10 +104,10 @@ module _ (slots : ℕ → Option Slot) (first : ℕ) (r : Ring slots first) wher
       record {
         versions = r.versions;
         used = r.versions;
-        fits = (omega arith, omega (arith, r.fits.0, r.fits.1));
+        fits = (omega arith, omega arith);
         in_a_row = λ i h. left (slots (place_of first i)) ∙ ⊎_elim
-            (λ z. and_from _ _ (r.in_a_row i h ∙ lt-ltb i r.used (omega (arith, z, r.fits.0)))
-            (not_from_false _ (r.drafts_last i (omega (arith, z, r.fits.0)) ∙ lt-leb r.versions i z)) ∙ sym (lt-ltb i r.versions z))
+            (λ z. and_from _ _ (r.in_a_row i h ∙ lt-ltb i r.used (omega arith))
+            (not_from_false _ (r.drafts_last i (omega arith) ∙ lt-leb r.versions i z)) ∙ sym (lt-ltb i r.versions z))
             (λ z. ⊎_elim (λ y. and_right _ _ (not_from_true _ (r.drafts_last i y ∙ le-leb r.versions i z)))
             (λ y. and_left _ _ (r.in_a_row i h ∙ le-ltb i r.used y)) (cases_lt i r.used) ∙ sym (le-ltb i r.versions z))
             (cases_lt i r.versions);
@@ -121,7 +119,7 @@ module _ (slots : ℕ → Option Slot) (first : ℕ) (r : Ring slots first) wher
       left (Some sl) = bool_case (λ b. is_some (cond b None (Some sl)) ≡ not b) (is_draft sl.stage) (λ _. refl) (λ _. refl)
 
       no_draft : (x : Option Slot) → any_draft (cond (any_draft x) None x) ≡ false
-      no_draft x = bool_case (λ b. any_draft x ≡ b → any_draft (cond b None x) ≡ false) (any_draft x) (λ _ _. refl) (λ e _. e) refl
+      no_draft x = cond_both (any_draft x) None x (λ y. any_draft y ≡ false) (λ _. refl) (λ e. e)
 
   -- The oldest slot leaves.
   freed_ring : Ring (put slots (place_of first 0) None) (place_of first 1)
@@ -129,19 +127,19 @@ module _ (slots : ℕ → Option Slot) (first : ℕ) (r : Ring slots first) wher
       record {
         versions = r.versions - 1;
         used = r.used - 1;
-        fits = (omega (arith, r.fits.0), omega (arith, r.fits.1));
+        fits = (omega arith, omega arith);
         in_a_row = λ i h. ⊎_elim
             (λ z. moved (λ x. is_some x ≡ ltb i (r.used - 1)) i z
             (r.in_a_row (suc i) (omega arith) ∙ leb_same (suc (suc i)) r.used (suc i) (r.used - 1) (λ y. omega arith) (λ y. omega arith)))
             (λ z. put_case (λ x. is_some x ≡ ltb i (r.used - 1)) slots (place_of first 0) None (place_of (place_of first 1) i)
-            (λ _. sym (le-ltb i (r.used - 1) (omega (arith, z, r.fits.1)))) (λ n. absurd (n (omega arith)))) (cases_lt i 7);
-        drafts_last = λ i h. moved (λ x. any_draft x ≡ leb (r.versions - 1) i) i (omega (arith, h, r.fits.1))
+            (λ _. sym (le-ltb i (r.used - 1) (omega arith))) (λ n. absurd (n (omega arith)))) (cases_lt i 7);
+        drafts_last = λ i h. moved (λ x. any_draft x ≡ leb (r.versions - 1) i) i (omega arith)
             (r.drafts_last (suc i) (omega arith) ∙ leb_same r.versions (suc i) (r.versions - 1) i (λ y. omega arith) (λ y. omega arith));
       }
     where
       moved : (P : Option Slot → Type 0) (i : ℕ) → i < 7 → P (slots (place_of first (suc i))) → P (put slots (place_of first 0) None (place_of (place_of first 1) i))
       moved P i h k =
-          put_case P slots (place_of first 0) None (place_of (place_of first 1) i) (λ z. absurd (let f : ⊥ = omega arith in f))
+          put_case P slots (place_of first 0) None (place_of (place_of first 1) i) (λ z. absurd (omega arith))
           (λ _. (let q : place_of first (suc i) ≡ place_of (place_of first 1) i = omega arith in subst (λ y. P (slots y)) q k))
 
 abbrev Rings : World → Type 0
@@ -152,25 +150,8 @@ abbrev Stay : Outcome → Type 0
 Stay out = Rings out.after
 
 module _ (w : World) (rings : Rings w) where
-  open_rings : (c u : ℕ) → Stay (open_step w c u)
-  unfolding open_step
-  open_rings c u = unless_case Stay w (is_some (w.section u)) AlreadyOpen _ rings (λ _. rings)
-
-  find_rings : (u i r : ℕ) → Stay (find_step w u i r)
-  unfolding find_step
-  find_rings u i r =
-      section_case Stay w (w.section u) _ rings (λ s _.
-      unless_case Stay w (leb (served w) r) NotServed _ rings (λ _.
-      unless_case Stay w (ltb 3 i) NoHold _ rings (λ _.
-      option_case (λ o. Stay (find_in w u s i r o)) (draft_age (w.slot u) (w.oldest u) r) (λ _. rings) (λ _ _. rings))))
-
-  take_rings : (u i offset count : ℕ) → Stay (take_step w u i offset count)
-  unfolding take_step
-  take_rings u i offset count =
-      section_case Stay w (w.section u) _ rings (λ s _.
-      unless_case Stay w (ltb 3 i) NoHold _ rings (λ _.
-      option_case (λ b. Stay (take_from w offset count b)) (held w (s.hold i)) (λ _. rings)
-      (λ b _. unless_case Stay w (bad_range offset count) BadRange _ rings (λ _. rings))))
+  no : (why : Refusal) → Stay (refuse w why)
+  no why = rings
 
   -- one log changes
   one_ring : (u p : ℕ) (s : Option Slot) → Ring (put (w.slot u) p s) (w.oldest u) → (o : ℕ) → Ring (put_slot w.slot u p s o) (w.oldest o)
@@ -178,37 +159,8 @@ module _ (w : World) (rings : Rings w) where
       eq_case (λ b. Ring (cond b (put (w.slot u) p s) (w.slot o)) (w.oldest o)) o u
       (λ e. subst (λ y. Ring (put (w.slot u) p s) (w.oldest y)) (sym e) r) (λ _. rings o)
 
-  lock_rings : (u r : ℕ) → Stay (lock_step w u r)
-  unfolding lock_step
-  lock_rings u r =
-      section_case Stay w (w.section u) _ rings (λ s _.
-      unless_case Stay w (leb (served w) r) NotServed _ rings (λ _.
-      option_case (λ o. Stay (lock_new w u s r o)) (draft_age (w.slot u) (w.oldest u) r) (λ _.
-      unless_case Stay w (locked_by_other w.slot w.oldest u r) LockedByOther _ rings (λ _.
-      unless_case Stay w (ltb s.opening (newest w r).entry.version) NewerVersion _ rings (λ _.
-      option_case (λ o. Stay (lock_at w u r o)) (free_age (w.slot u) (w.oldest u)) (λ _. rings)
-      (λ i e. one_ring u (place_of (w.oldest u) i) _ (lock_ring (w.slot u) (w.oldest u) (rings u) i (draft_slot r (newest w r).entry.body) refl e)))))
-      (λ _ _. rings)))
-
   edit_rings : (u r : ℕ) (f : Body → Body) → Stay (edit w u r f)
-  edit_rings u r f o =
-      edited_ring (w.slot o) (w.oldest o) (rings o) (edited u r f o) (λ sl.
-      bool_case (λ b. is_draft (cond b (record { number = sl.number; body = f sl.body; stage = sl.stage }) sl).stage ≡ is_draft sl.stage) (eqb o u && draft_of r (Some sl)) (λ _. refl) (λ _. refl))
-
-  put_rings : (u r offset : ℕ) (bytes : List ℕ) → Stay (put_step w u r offset bytes)
-  unfolding put_step
-  put_rings u r offset bytes =
-      section_case Stay w (w.section u) _ rings (λ s _.
-      unless_case Stay w (leb (served w) r) NotServed _ rings (λ _.
-      unless_case Stay w (not (has_draft (w.slot u) (w.oldest u) r)) NoDraft _ rings (λ _.
-      unless_case Stay w (bad_range offset (length bytes)) BadRange _ rings (λ _. edit_rings u r (written offset bytes)))))
-
-  clear_rings : (u r : ℕ) → Stay (clear_step w u r)
-  unfolding clear_step
-  clear_rings u r =
-      section_case Stay w (w.section u) _ rings (λ s _.
-      unless_case Stay w (leb (served w) r) NotServed _ rings (λ _.
-      unless_case Stay w (not (has_draft (w.slot u) (w.oldest u) r)) NoDraft _ rings (λ _. edit_rings u r (λ b. blank))))
+  edit_rings u r f o = edited_ring (w.slot o) (w.oldest o) (rings o) (edited u r f o) (λ sl. ap is_draft (edited_same u r f o sl).1)
 
   settle_rings : (u c o : ℕ) → Ring (settle w u c o) (w.oldest o)
   settle_rings u c o =
@@ -228,56 +180,30 @@ module _ (w : World) (rings : Rings w) where
       other false (Live v) = refl
       other carried (Retired v t) = refl
 
-  commit_rings : (c u : ℕ) → Stay (commit_step w c u)
-  unfolding commit_step
-  commit_rings c u =
-      section_case Stay w (w.section u) _ rings (λ s _.
-      bool_case (λ b. Stay (commit_drafts w c u b)) (has_drafts (w.slot u) (w.oldest u))
-      (λ _. unless_case Stay w (leb top w.highest) StampsSpent _ rings (λ _. settle_rings u c)) (λ _. rings))
-
-  abort_rings : (u : ℕ) → Stay (abort_step w u)
-  unfolding abort_step
-  abort_rings u =
-      section_case Stay w (w.section u) _ rings (λ s _ o.
+  own_step_rings : (c : ℕ) (call : Call) → Stay (own_step w c call)
+  unfolding survey_step
+  own_step_rings c (Open u) = open_cases Stay w no c u (λ _. rings)
+  own_step_rings c (Find u i r) = find_cases Stay w no u i r (λ _ _ _. rings) (λ _ _ _ _. rings)
+  own_step_rings c (Take u i offset count) = take_cases Stay w no u i offset count (λ _ _ _ _. rings)
+  own_step_rings c (Lock u r) =
+      lock_cases Stay w no u r
+      (λ s i l. one_ring u (place_of (w.oldest u) i) _ (lock_ring (w.slot u) (w.oldest u) (rings u) i (draft_slot r (newest w r).entry.body) refl l.first_free)) (λ _ _ _ _. rings)
+  own_step_rings c (Put u r offset bytes) = put_cases Stay w no u r offset bytes (λ _ _. edit_rings u r (written offset bytes))
+  own_step_rings c (Clear u r) = clear_cases Stay w no u r (λ _ _. edit_rings u r (λ b. blank))
+  own_step_rings c (Commit u) = commit_cases Stay w no c u (settle_rings u c) (λ _. rings)
+  own_step_rings c (Abort u) =
+      abort_cases Stay w no u (λ o.
       eq_case (λ b. Ring (λ p. cond (b && any_draft (w.slot o p)) None (w.slot o p)) (w.oldest o)) o u
       (λ _. aborted_ring (w.slot o) (w.oldest o) (rings o)) (λ _. rings o))
-
-  collect_rings : (c u : ℕ) → Stay (collect_step w c u)
-  unfolding collect_step
-  collect_rings c u = option_case (λ o. Stay (collect_slot w c u o)) (w.slot u (oldest_place w u)) (λ _. rings) (λ sl e. by sl e sl.stage refl)
-    where
-      by : (sl : Slot) → w.slot u (oldest_place w u) ≡ Some sl → (st : Stage) → sl.stage ≡ st → Stay (collect_stage w c u sl st)
-      by sl e Draft q = rings
-      by sl e (Retired v t) q =
-          bool_case (λ b. Stay (cond b (gives (freed w u) (collected Freed)) (gives w (collected Waits)))) (leb t w.watermark)
-          (λ _ o. eq_case (λ b. Ring (cond b (put (w.slot u) (oldest_place w u) None) (w.slot o)) (cond b (place_of (w.oldest u) 1) (w.oldest o))) o u
-          (λ _. freed_ring (w.slot u) (w.oldest u) (rings u)) (λ _. rings o)) (λ _. rings)
-      by sl e (Live v) q =
-          bool_case (λ b. Stay (cond b (collect_live w c u sl v) (gives w (collected Waits)))) (leb v w.watermark)
-          (λ _. unless_case Stay w (leb top w.highest) StampsSpent _ rings (λ _.
-          fault_case Stay w (home.write_fault w.home sl.number) _ (λ _. rings) (λ _.
-          one_ring u (oldest_place w u) _ (over_ring (w.slot u) (w.oldest u) (rings u) (oldest_place w u) sl (record { number = sl.number; body = sl.body; stage = Retired v c }) e (ap is_draft q)))))
-          (λ _. rings)
-
-  survey_rings : Stay (survey_step w)
-  unfolding survey_step
-  survey_rings = rings
-
-  own_step_rings : (c : ℕ) (call : Call) → Stay (own_step w c call)
-  own_step_rings c (Open u) = open_rings c u
-  own_step_rings c (Find u i r) = find_rings u i r
-  own_step_rings c (Take u i offset count) = take_rings u i offset count
-  own_step_rings c (Lock u r) = lock_rings u r
-  own_step_rings c (Put u r offset bytes) = put_rings u r offset bytes
-  own_step_rings c (Clear u r) = clear_rings u r
-  own_step_rings c (Commit u) = commit_rings c u
-  own_step_rings c (Abort u) = abort_rings u
-  own_step_rings c Survey = survey_rings
-  own_step_rings c (Collect u) = collect_rings c u
-  own_step_rings c (Tick t) = rings
+  own_step_rings c (Collect u) =
+      collect_cases Stay w no c u (λ _. rings)
+      (λ _ _ _ _ _ _ o. eq_case (λ b. Ring (cond b (put (w.slot u) (oldest_place w u) None) (w.slot o)) (cond b (place_of (w.oldest u) 1) (w.oldest o))) o u
+      (λ _. freed_ring (w.slot u) (w.oldest u) (rings u)) (λ _. rings o))
+      (λ sl e v q _ _. one_ring u (oldest_place w u) _ (over_ring (w.slot u) (w.oldest u) (rings u) (oldest_place w u) sl _ e (ap is_draft q)))
+  own_step_rings c _ = rings
 
   step_rings : (c : ℕ) (d : Door) (call : Call) → Stay (step w c d call)
-  step_rings c d call = unless_case Stay w (foreign d call) OtherDoor _ rings (λ _. own_step_rings c call)
+  step_rings c d call = step_cases Stay w no c d call (λ _. own_step_rings c call)
 
 -- an empty log
 empty_ring : (first : ℕ) → Ring (λ p. None) first
@@ -287,7 +213,7 @@ empty_ring first =
       used = 0;
       fits = (omega arith, omega arith);
       in_a_row = λ i _. sym (le-ltb i 0 (omega arith));
-      drafts_last = λ i h. absurd (let f : ⊥ = omega arith in f);
+      drafts_last = λ i h. absurd (omega arith);
     }
 
 turned_rings : (y z : World) (t : Turn) → Turned y t z → Rings y → Rings z

@@ -1,39 +1,38 @@
 -- Drafts are own: a hold that the history has on an own draft stands on a draft of that record, in the log of the section's user.
-use Rattle.std.proofs.Common.{◌≡◌, ℕ, true, false, cond, not, ◌&&◌, eqb, ltb, leb, List, length, Some, None, Option, sym, refl, ap, ◌∙◌, subst, arith}
-use Rattle.std.proofs.lemmas.Bool.{eqb-true, and_parts, not-true}
-use Rattle.interfaces.specs.Homes.{Meaning}
-use Rattle.interfaces.specs.Stamps.{top}
+use Rattle.std.proofs.Common.{◌≡◌, ℕ, false, cond, ◌&&◌, eqb, List, Some, None, Option, sym, refl, ap, ◌∙◌, subst}
+use Rattle.std.proofs.lemmas.Bool.{eqb-true, and_parts, cond_both}
+use Rattle.std.proofs.lemmas.Option.{same_Some}
 use Rattle.model.specs.declared.body.Body.{Body}
-use Rattle.model.specs.declared.slot.Stage.{Stage}
-use Rattle.model.specs.declared.slot.Stage.TheVariants.{Draft, Live, Retired}
+use Rattle.model.specs.declared.slot.Stage.TheVariants.{Draft, Live}
 use Rattle.model.specs.declared.slot.Slot.{Slot}
 use Rattle.model.specs.declared.slot.Hold.{Hold}
 use Rattle.model.specs.declared.slot.Hold.TheVariants.{OnSlot}
-use Rattle.model.specs.declared.refusal.Refusal.{Refusal}
-use Rattle.model.specs.declared.refusal.Refusal.TheVariants.{OtherDoor, AlreadyOpen, NotOpen, NotServed, NoHold, BadRange, LockedByOther, NewerVersion, NoDraft, StampsSpent}
-use Rattle.model.specs.declared.answer.Collected.TheVariants.{Waits, Freed}
 use Rattle.model.specs.declared.door.Door.{Door}
 use Rattle.model.specs.declared.door.Door.TheVariants.{Host}
-use Rattle.model.specs.Tools.{put, on_some, is_some}
-use Rattle.model.specs.Worlds.{Entry, Section, World, served, home_bytes, part, written, blank, first_hour, with_slots, put_slot}
-use Rattle.model.specs.Calls.{Call, Open, Find, Take, Lock, Put, Clear, Commit, Abort, Survey, Collect, Tick, refused, taken, collected, Turn, turn, foreign}
+use Rattle.model.specs.Tools.{put, on_some}
+use Rattle.model.specs.Worlds.{Entry, Section, World, home_bytes, part, written, blank, first_hour, with_slots, put_slot}
+use Rattle.model.specs.Calls.{Call, Open, Find, Take, Lock, Put, Clear, Commit, Abort, Collect, taken, turn}
 use Rattle.model.specs.Versions.{place_of, newest}
-use Rattle.model.specs.Drafts.{is_draft, any_draft, draft_age, has_draft, has_drafts, locked_by_other, free_age, edited, undrafted, settled}
-use Rattle.model.specs.Steps.{fresh, Outcome, gives, bad_range, open_step, holding, find_in, find_step, held, take_from, take_step, lock_at, lock_new, lock_step, put_step, clear_step, settle, commit_drafts, commit_step, abort_step, survey_step, oldest_place, freed, collect_live, collect_stage, collect_slot, collect_step, own_step, step}
-use Rattle.model.specs.History.{Held, nothing, own_draft, version_of, Reader, History, draft_in, with_reader, opening, held_by, finding, locking, editing, fed}
+use Rattle.model.specs.Drafts.{is_draft, any_draft, edited, undrafted, settled}
+use Rattle.model.specs.Steps.{fresh, Outcome, holding, held, take_step, settle, survey_step, oldest_place, own_step, step}
+use Rattle.model.specs.History.{Held, own_draft, Reader, History, draft_in, with_reader, opening, held_by, finding, locking, editing, fed}
 use Rattle.laws.specs.Laws.{DraftsOwn}
 use Rattle.laws.specs.Theorems.{OfEveryRun}
-use Rattle.laws.proofs.Basics.{none_some, true_false, some_path, eq_case, bool_case, option_case, put_case, unless_case, fault_case, section_case, on_some_some, least_some}
+use Rattle.laws.proofs.Basics.{eq_case, bool_case, on_some_some, put_on_some}
+use Rattle.laws.proofs.Cases.{free_here, step_cases, open_cases, find_cases, take_cases, lock_cases, put_cases, clear_cases, commit_cases, abort_cases, collect_cases}
 use Rattle.laws.proofs.Invariant.{draft_slot, Inv}
 use Rattle.laws.proofs.Reading.{draft_here, no_draft_here}
-use Rattle.laws.proofs.Carrying.{is_some_false, put_slot_case}
-use Rattle.laws.proofs.Answers.{accepted_own}
-use Rattle.laws.proofs.Runs.{Run, run_of, before_suc, past, seen, Kept, turn_at}
-use Rattle.interfaces.specs.Homes as home
+use Rattle.laws.proofs.Carrying.{put_slot_case}
+use Rattle.laws.proofs.Answers.{own_answered}
+use Rattle.laws.proofs.Runs.{WholeRun, whole_run, behind, past, seen, Kept, turn_at}
+
+-- a hold of u is on a draft of r in u's log
+abbrev pub OnDraft : (ℕ → Option Slot) → ℕ → ℕ → Hold → Type 0
+OnDraft log u r x = (p : ℕ) × (b : Body) × (x ≡ OnSlot u p) × (log p ≡ Some (draft_slot r b))
 
 -- of u's log, with the holds of its section in the store and in the history
 abbrev pub Own : (ℕ → Option Slot) → ℕ → (ℕ → Hold) → (ℕ → Held) → Type 0
-Own log u hold held = (i r : ℕ) → held i ≡ own_draft r → (p : ℕ) × (b : Body) × (hold i ≡ OnSlot u p) × (log p ≡ Some (draft_slot r b))
+Own log u hold held = (i r : ℕ) → held i ≡ own_draft r → OnDraft log u r (hold i)
 
 -- of all sections, in the store and in the history
 abbrev pub Owned : (ℕ → Option Section) → (ℕ → Option Reader) → (ℕ → ℕ → Option Slot) → Type 0
@@ -46,15 +45,6 @@ OwnHolds w h = Owned w.section h.section w.slot
 abbrev Stays : (ℕ → Option Slot) → (ℕ → Option Slot) → Type 0
 Stays log log' = (p r : ℕ) (b : Body) → log p ≡ Some (draft_slot r b) → (b' : Body) × (log' p ≡ Some (draft_slot r b'))
 
-no_hold : {X : Type 0} (r : ℕ) → nothing ≡ own_draft r → X
-no_hold r e = let z : ◌≡◌ {A = ℕ} 0 1 = cc in absurd (let f : ⊥ = omega arith in f)
-
-no_version : {X : Type 0} (r v a : ℕ) → version_of r v ≡ own_draft a → X
-no_version r v a e = let z : ◌≡◌ {A = ℕ} 0 1 = cc in absurd (let f : ⊥ = omega arith in f)
-
-same_draft : (r a : ℕ) → own_draft r ≡ own_draft a → r ≡ a
-same_draft r a e = cc
-
 carry_own : (log log' : ℕ → Option Slot) (u : ℕ) (hold : ℕ → Hold) (held : ℕ → Held) → Stays log log' → Own log u hold held → Own log' u hold held
 carry_own log log' u hold held f own i r e =
     let g = own i r e in
@@ -65,11 +55,9 @@ carry_own log log' u hold held f own i r e =
 carry_owned : (ws : ℕ → Option Section) (hs : ℕ → Option Reader) (slot slot' : ℕ → ℕ → Option Slot) (u : ℕ) (f : Reader → Reader) → ((y : Reader) → (f y).hold ≡ y.hold)
     → ((v : ℕ) → Stays (slot v) (slot' v)) → Owned ws hs slot → Owned ws (put hs u (on_some f (hs u))) slot'
 carry_owned ws hs slot slot' u f same stays own v s rd e =
-    put_case (λ y. y ≡ Some rd → Own (slot' v) v s.hold rd.hold) hs u (on_some f (hs u)) v
-    (λ z q. (let g = on_some_some f (hs u) rd q in
-    subst (Own (slot' v) v s.hold) (sym (same g.0) ∙ ap (λ y. y.hold) g.2)
-    (carry_own (slot v) (slot' v) v s.hold g.0.hold (stays v) (own v s g.0 e (ap hs z ∙ g.1)))))
-    (λ _ q. carry_own (slot v) (slot' v) v s.hold rd.hold (stays v) (own v s rd e q))
+    put_on_some (Own (slot' v) v s.hold rd.hold) hs u f v rd
+    (λ y _ i q. subst (Own (slot' v) v s.hold) (sym (same y) ∙ ap (λ y. y.hold) q) (carry_own (slot v) (slot' v) v s.hold y.hold (stays v) (own v s y e i)))
+    (λ q. carry_own (slot v) (slot' v) v s.hold rd.hold (stays v) (own v s rd e q))
 
 -- u's section opens, changes or closes
 put_owned : (ws : ℕ → Option Section) (hs : ℕ → Option Reader) (slot slot' : ℕ → ℕ → Option Slot) (u : ℕ) (x : Option Section) (y : Option Reader)
@@ -84,7 +72,7 @@ put_owned ws hs slot slot' u x y here stays own v s rd =
 other_slot : (slot : ℕ → ℕ → Option Slot) (u q : ℕ) (x : Option Slot) → ((r : ℕ) (b : Body) → slot u q ≡ Some (draft_slot r b) → ⊥) → (v : ℕ) → Stays (slot v) (put_slot slot u q x v)
 other_slot slot u q x no' v p r b e = (
   b,
-  put_slot_case (λ y. y ≡ Some (draft_slot r b)) slot u q x v p (λ a z. absurd (no' r b (ap (λ y. slot y q) (sym a) ∙ ap (slot v) (sym z) ∙ e))) (λ _. e),
+  put_slot_case (λ y. y ≡ Some (draft_slot r b)) slot u q x v p (λ a z. absurd (no' r b cc)) (λ _. e),
 )
 
 module _ (seen : ℕ → ℕ → Entry) (w : World) (h : History) (inv : Inv seen w h) (own : OwnHolds w h) (k : ℕ) where
@@ -92,61 +80,18 @@ module _ (seen : ℕ → ℕ → Entry) (w : World) (h : History) (inv : Inv see
   abbrev KeepsOwn : Call → Outcome → Type 0
   KeepsOwn call out = OwnHolds out.after (fed k h (turn Host call out.answer))
 
-  open_owns : (c u : ℕ) → KeepsOwn (Open u) (open_step w c u)
-  unfolding open_step
-  open_owns c u =
-      unless_case (KeepsOwn (Open u)) w (is_some (w.section u)) AlreadyOpen _ own
-      (λ _. put_owned w.section h.section w.slot w.slot u (Some (fresh c)) (Some (opening k))
-      (λ s rd _ q i r e. no_hold r (ap (λ y. y.hold i) (some_path (opening k) rd q) ∙ e)) (λ v _ p r b e. (b, e)) own)
-
-  -- a find: the hold that it sets, where there is an own draft and where there is none
-  find_owns : (u i r : ℕ) → KeepsOwn (Find u i r) (find_step w u i r)
-  unfolding find_step
-  find_owns u i r =
-      section_case (KeepsOwn (Find u i r)) w (w.section u) _ own (λ s e.
-      unless_case (KeepsOwn (Find u i r)) w (leb (served w) r) NotServed _ own (λ _.
-      unless_case (KeepsOwn (Find u i r)) w (ltb 3 i) NoHold _ own (λ _.
-      option_case (λ o. KeepsOwn (Find u i r) (find_in w u s i r o)) (draft_age (w.slot u) (w.oldest u) r)
-      (λ q. set s e _ _ (λ rd is a z. (let n : rd.draft r ≡ None = ap (λ y. draft_in y r) (sym is) ∙ no_draft_here seen w h inv u r q in
-      no_version r _ a (ap (held_by r _) (sym n) ∙ z))))
-      (λ j q. set s e _ _ (λ rd is a z. (let d = draft_here seen w h inv u r j q in
-      let n : rd.draft r ≡ Some d.0 = ap (λ y. draft_in y r) (sym is) ∙ d.1 in
-      (place_of (w.oldest u) j, d.0, refl, d.2 ∙ ap (λ y. Some (draft_slot y d.0)) (same_draft r a (ap (held_by r 0) (sym n) ∙ z)))))))))
-    where
-      set : (s : Section) → w.section u ≡ Some s → (x : Hold) (v : ℕ)
-          → ((rd : Reader) → h.section u ≡ Some rd → (a : ℕ) → held_by r v (rd.draft r) ≡ own_draft a → (p : ℕ) × (b : Body) × (x ≡ OnSlot u p) × (w.slot u p ≡ Some (draft_slot a b)))
-          → OwnHolds (holding w u s i x) (with_reader h u (on_some (finding i r v) (h.section u)))
-      set s e x v f =
-          put_owned w.section h.section w.slot w.slot u _ _
-          (λ s' rd p q j a z. (let g = on_some_some (finding i r v) (h.section u) rd q in
-          let y : put g.0.hold i (held_by r v (g.0.draft r)) j ≡ own_draft a = ap (λ y. y.hold j) g.2 ∙ z in
-          subst (λ y. (p : ℕ) × (b : Body) × (y.hold j ≡ OnSlot u p) × (w.slot u p ≡ Some (draft_slot a b))) (some_path _ s' p)
-          (eq_case (λ t. cond t (held_by r v (g.0.draft r)) (g.0.hold j) ≡ own_draft a → (p : ℕ) × (b : Body) × (cond t x (s.hold j) ≡ OnSlot u p) × (w.slot u p ≡ Some (draft_slot a b))) j i
-          (λ _ m. f g.0 g.1 a m) (λ _ m. own u s g.0 e g.1 j a m) y)))
-          (λ v _ p r b e. (b, e)) own
-
-  take_owns : (u i offset count : ℕ) → KeepsOwn (Take u i offset count) (take_step w u i offset count)
-  unfolding take_step
-  take_owns u i offset count =
-      section_case (KeepsOwn (Take u i offset count)) w (w.section u) _ own (λ s e.
-      unless_case (KeepsOwn (Take u i offset count)) w (ltb 3 i) NoHold _ own (λ _.
-      option_case (λ b. KeepsOwn (Take u i offset count) (take_from w offset count b)) (held w (s.hold i)) (λ _. own)
-      (λ b _. unless_case (KeepsOwn (Take u i offset count)) w (bad_range offset count) BadRange _ own (λ _. own))))
-
-  lock_owns : (u r : ℕ) → KeepsOwn (Lock u r) (lock_step w u r)
-  unfolding lock_step
-  lock_owns u r =
-      section_case (KeepsOwn (Lock u r)) w (w.section u) _ own (λ s e.
-      unless_case (KeepsOwn (Lock u r)) w (leb (served w) r) NotServed _ own (λ _.
-      option_case (λ o. KeepsOwn (Lock u r) (lock_new w u s r o)) (draft_age (w.slot u) (w.oldest u) r) (λ _.
-      unless_case (KeepsOwn (Lock u r)) w (locked_by_other w.slot w.oldest u r) LockedByOther _ own (λ _.
-      unless_case (KeepsOwn (Lock u r)) w (ltb s.opening (newest w r).entry.version) NewerVersion _ own (λ _.
-      option_case (λ o. KeepsOwn (Lock u r) (lock_at w u r o)) (free_age (w.slot u) (w.oldest u)) (λ _. own)
-      (λ i f. (let l = least_some 8 (λ j. not (is_some (w.slot u (place_of (w.oldest u) j)))) i f in
-      let free = is_some_false (w.slot u (place_of (w.oldest u) i)) (not-true (is_some (w.slot u (place_of (w.oldest u) i))) l.1) in
-      carry_owned w.section h.section w.slot _ u (locking r (h.entries r).last.body) (λ y. refl)
-      (other_slot w.slot u (place_of (w.oldest u) i) (Some (draft_slot r (newest w r).entry.body)) (λ a b q. none_some (draft_slot a b) (sym free ∙ q))) own)))))
-      (λ i _. carry_owned w.section h.section w.slot w.slot u (locking r (h.entries r).last.body) (λ y. refl) (λ v p a b q. (b, q)) own)))
+  -- a find: the hold that it sets
+  finding_owns : (u i r : ℕ) (s : Section) → w.section u ≡ Some s → (x : Hold) (v : ℕ)
+      → ((rd : Reader) → h.section u ≡ Some rd → (a : ℕ) → held_by r v (rd.draft r) ≡ own_draft a → OnDraft (w.slot u) u a x)
+      → OwnHolds (holding w u s i x) (with_reader h u (on_some (finding i r v) (h.section u)))
+  finding_owns u i r s e x v f =
+      put_owned w.section h.section w.slot w.slot u _ _
+      (λ s' rd p q j a z. (let g = on_some_some (finding i r v) (h.section u) rd q in
+      let y : put g.0.hold i (held_by r v (g.0.draft r)) j ≡ own_draft a = ap (λ y. y.hold j) g.2 ∙ z in
+      subst (λ y. OnDraft (w.slot u) u a (y.hold j)) (same_Some _ s' p)
+      (eq_case (λ t. cond t (held_by r v (g.0.draft r)) (g.0.hold j) ≡ own_draft a → OnDraft (w.slot u) u a (cond t x (s.hold j))) j i
+      (λ _ m. f g.0 g.1 a m) (λ _ m. own u s g.0 e g.1 j a m) y)))
+      (λ v _ p r b e. (b, e)) own
 
   edit_owns : (u r : ℕ) (f : Body → Body) → OwnHolds (with_slots w (λ o p. on_some (edited u r f o) (w.slot o p))) (with_reader h u (on_some (editing r f) (h.section u)))
   edit_owns u r f =
@@ -154,128 +99,85 @@ module _ (seen : ℕ → ℕ → Entry) (w : World) (h : History) (inv : Inv see
       (λ v p a b e. bool_case (λ t. on_some (edited u r f v) (w.slot v p) ≡ Some (cond t (draft_slot a (f b)) (draft_slot a b)) → (b' : Body) × (on_some (edited u r f v) (w.slot v p) ≡ Some (draft_slot a b')))
       (eqb v u && eqb a r) (λ _ q. (f b, q)) (λ _ q. (b, q)) (ap (on_some (edited u r f v)) e)) own
 
-  put_owns : (u r offset : ℕ) (bytes : List ℕ) → KeepsOwn (Put u r offset bytes) (put_step w u r offset bytes)
-  unfolding put_step
-  put_owns u r offset bytes =
-      section_case (KeepsOwn (Put u r offset bytes)) w (w.section u) _ own (λ s e.
-      unless_case (KeepsOwn (Put u r offset bytes)) w (leb (served w) r) NotServed _ own (λ _.
-      unless_case (KeepsOwn (Put u r offset bytes)) w (not (has_draft (w.slot u) (w.oldest u) r)) NoDraft _ own (λ _.
-      unless_case (KeepsOwn (Put u r offset bytes)) w (bad_range offset (length bytes)) BadRange _ own (λ _. edit_owns u r (written offset bytes)))))
-
-  clear_owns : (u r : ℕ) → KeepsOwn (Clear u r) (clear_step w u r)
-  unfolding clear_step
-  clear_owns u r =
-      section_case (KeepsOwn (Clear u r)) w (w.section u) _ own (λ s e.
-      unless_case (KeepsOwn (Clear u r)) w (leb (served w) r) NotServed _ own (λ _.
-      unless_case (KeepsOwn (Clear u r)) w (not (has_draft (w.slot u) (w.oldest u) r)) NoDraft _ own (λ _. edit_owns u r (λ b. blank))))
-
   -- u's section closes, and the drafts of others stay
   closed_owns : (u : ℕ) (slot' : ℕ → ℕ → Option Slot) → ((v : ℕ) → (v ≡ u → ⊥) → Stays (w.slot v) (slot' v)) → Owned (put w.section u None) (put h.section u None) slot'
-  closed_owns u slot' stays = put_owned w.section h.section w.slot slot' u None None (λ s rd e _. none_some s e) stays own
+  closed_owns u slot' stays = put_owned w.section h.section w.slot slot' u None None (λ s rd e. cc) stays own
 
-  commit_owns : (c u : ℕ) → KeepsOwn (Commit u) (commit_step w c u)
-  unfolding commit_step
-  commit_owns c u =
-      section_case (KeepsOwn (Commit u)) w (w.section u) _ own (λ s _.
-      bool_case (λ b. KeepsOwn (Commit u) (commit_drafts w c u b)) (has_drafts (w.slot u) (w.oldest u))
-      (λ _. unless_case (KeepsOwn (Commit u)) w (leb top w.highest) StampsSpent _ own
-      (λ _. closed_owns u (settle w u c) (λ v n p r b e. (
+  -- the slot collected is no draft, so no draft is touched
+  collect_owns : (u : ℕ) (sl : Slot) → w.slot u (oldest_place w u) ≡ Some sl → is_draft sl.stage ≡ false → (x : Option Slot) → Owned w.section h.section (put_slot w.slot u (oldest_place w u) x)
+  collect_owns u sl e d x v s rd p q =
+      carry_own (w.slot v) (put_slot w.slot u (oldest_place w u) x v) v s.hold rd.hold
+      (other_slot w.slot u (oldest_place w u) x (λ r b z. cc (ap (λ y. is_draft y.stage) (same_Some (draft_slot r b) sl (sym z ∙ e)))) v) (own v s rd p q)
+
+  own_step_owns : (c : ℕ) (call : Call) → KeepsOwn call (own_step w c call)
+  unfolding survey_step
+  own_step_owns c (Open u) =
+      open_cases (KeepsOwn (Open u)) w (λ _. own) c u
+      (λ _. put_owned w.section h.section w.slot w.slot u (Some (fresh c)) (Some (opening k)) (λ s rd _ q i r e. cc (ap (λ y. y.hold i) (same_Some (opening k) rd q))) (λ v _ p r b e. (b, e)) own)
+  own_step_owns c (Find u i r) =
+      find_cases (KeepsOwn (Find u i r)) w (λ _. own) u i r
+      (λ s e q. finding_owns u i r s e _ _ (λ rd is a z. cc (ap (λ y. draft_in y r) is, no_draft_here seen w h inv u r q)))
+      (λ s e j q. finding_owns u i r s e _ _ (λ rd is a z. (let d = draft_here seen w h inv u r j q in
+      (place_of (w.oldest u) j, d.0, refl, cc (ap (λ y. draft_in y r) is, d.1, d.2)))))
+  own_step_owns c (Take u i offset count) = take_cases (KeepsOwn (Take u i offset count)) w (λ _. own) u i offset count (λ _ _ _ _. own)
+  own_step_owns c (Lock u r) =
+      lock_cases (KeepsOwn (Lock u r)) w (λ _. own) u r
+      (λ s i l. carry_owned w.section h.section w.slot _ u (locking r (h.entries r).last.body) (λ y. refl)
+      (other_slot w.slot u (place_of (w.oldest u) i) (Some (draft_slot r (newest w r).entry.body)) (λ a b q. cc (free_here l))) own)
+      (λ _ _ _ _. carry_owned w.section h.section w.slot w.slot u (locking r (h.entries r).last.body) (λ y. refl) (λ v p a b q. (b, q)) own)
+  own_step_owns c (Put u r offset bytes) = put_cases (KeepsOwn (Put u r offset bytes)) w (λ _. own) u r offset bytes (λ _ _. edit_owns u r (written offset bytes))
+  own_step_owns c (Clear u r) = clear_cases (KeepsOwn (Clear u r)) w (λ _. own) u r (λ _ _. edit_owns u r (λ b. blank))
+  own_step_owns c (Commit u) =
+      commit_cases (KeepsOwn (Commit u)) w (λ _. own) c u
+      (closed_owns u (settle w u c) (λ v n p r b e. (
         b,
         ap (on_some (settled (w.slot u) (w.oldest u) (eqb v u) c)) e
             ∙ eq_case (λ t. Some (record { number = r; body = b; stage = cond t (Live c) Draft }) ≡ Some (draft_slot r b)) v u (λ y. absurd (n y)) (λ _. refl),
-      ))))
-      (λ _. closed_owns u w.slot (λ v n p r b e. (b, e))))
-
-  abort_owns : (u : ℕ) → KeepsOwn (Abort u) (abort_step w u)
-  unfolding abort_step
-  abort_owns u =
-      section_case (KeepsOwn (Abort u)) w (w.section u) _ own (λ s _.
-      closed_owns u (λ o p. undrafted u o (w.slot o p)) (λ v n p r b e. (
+      )))
+      (λ _. closed_owns u w.slot (λ v n p r b e. (b, e)))
+  own_step_owns c (Abort u) =
+      abort_cases (KeepsOwn (Abort u)) w (λ _. own) u
+      (closed_owns u (λ o p. undrafted u o (w.slot o p)) (λ v n p r b e. (
         b,
-        bool_case (λ t. cond t None (w.slot v p) ≡ Some (draft_slot r b)) (eqb v u && any_draft (w.slot v p))
+        cond_both (eqb v u && any_draft (w.slot v p)) None (w.slot v p) (λ y. y ≡ Some (draft_slot r b))
             (λ t. absurd (n (eqb-true v u (and_parts (eqb v u) (any_draft (w.slot v p)) t).0))) (λ _. e),
       )))
-
-  collect_owns : (c u : ℕ) → KeepsOwn (Collect u) (collect_step w c u)
-  unfolding collect_step
-  collect_owns c u = option_case (λ o. KeepsOwn (Collect u) (collect_slot w c u o)) (w.slot u (oldest_place w u)) (λ _. own) (λ sl e. by sl e sl.stage refl)
-    where
-      -- the slot is no draft, so no draft is touched
-      moved : (sl : Slot) → w.slot u (oldest_place w u) ≡ Some sl → is_draft sl.stage ≡ false → (x : Option Slot) → Owned w.section h.section (put_slot w.slot u (oldest_place w u) x)
-      moved sl e d x v s rd p q =
-          carry_own (w.slot v) (put_slot w.slot u (oldest_place w u) x v) v s.hold rd.hold
-          (other_slot w.slot u (oldest_place w u) x (λ r b z. true_false true refl (ap (λ y. is_draft y.stage) (some_path (draft_slot r b) sl (sym z ∙ e)) ∙ d)) v) (own v s rd p q)
-
-      by : (sl : Slot) → w.slot u (oldest_place w u) ≡ Some sl → (st : Stage) → sl.stage ≡ st → KeepsOwn (Collect u) (collect_stage w c u sl st)
-      by sl e Draft q = own
-      by sl e (Retired v t) q =
-          bool_case (λ b. KeepsOwn (Collect u) (cond b (gives (freed w u) (collected Freed)) (gives w (collected Waits)))) (leb t w.watermark)
-          (λ _. moved sl e (ap is_draft q) None) (λ _. own)
-      by sl e (Live v) q =
-          bool_case (λ b. KeepsOwn (Collect u) (cond b (collect_live w c u sl v) (gives w (collected Waits)))) (leb v w.watermark)
-          (λ _. unless_case (KeepsOwn (Collect u)) w (leb top w.highest) StampsSpent _ own (λ _.
-          fault_case (KeepsOwn (Collect u)) w (home.write_fault w.home sl.number) _ (λ _. own) (λ _. moved sl e (ap is_draft q) _)))
-          (λ _. own)
-
-  survey_owns : KeepsOwn Survey (survey_step w)
-  unfolding survey_step
-  survey_owns = own
-
-  own_step_owns : (c : ℕ) (call : Call) → KeepsOwn call (own_step w c call)
-  own_step_owns c (Open u) = open_owns c u
-  own_step_owns c (Find u i r) = find_owns u i r
-  own_step_owns c (Take u i offset count) = take_owns u i offset count
-  own_step_owns c (Lock u r) = lock_owns u r
-  own_step_owns c (Put u r offset bytes) = put_owns u r offset bytes
-  own_step_owns c (Clear u r) = clear_owns u r
-  own_step_owns c (Commit u) = commit_owns c u
-  own_step_owns c (Abort u) = abort_owns u
-  own_step_owns c Survey = survey_owns
-  own_step_owns c (Collect u) = collect_owns c u
-  own_step_owns c (Tick t) = own
+  own_step_owns c (Collect u) =
+      collect_cases (KeepsOwn (Collect u)) w (λ _. own) c u (λ _. own)
+      (λ sl e v t q _. collect_owns u sl e (ap is_draft q) None) (λ sl e v q _ _. collect_owns u sl e (ap is_draft q) _)
+  own_step_owns c _ = own
 
   step_owns : (c : ℕ) (d : Door) (call : Call) → KeepsOwn call (step w c d call)
-  step_owns c d call = unless_case (KeepsOwn call) w (foreign d call) OtherDoor _ own (λ _. own_step_owns c call)
-
-  refused_taken : {X : Type 0} (why : Refusal) (bs : List ℕ) → refused why ≡ taken bs → X
-  refused_taken why bs e = let z : ◌≡◌ {A = ℕ} 0 1 = cc in absurd (let f : ⊥ = omega arith in f)
-
-  taken_bytes : (a b : List ℕ) → taken a ≡ taken b → a ≡ b
-  taken_bytes a b e = cc
+  step_owns c d call = step_cases (KeepsOwn call) w (λ _. own) c d call (λ _. own_step_owns c call)
 
   -- what an accepted take from a hold on an own draft answers
   draft_answer : (u i offset count : ℕ) (bs : List ℕ) (rd : Reader) (r : ℕ) → h.section u ≡ Some rd → rd.hold i ≡ own_draft r → (take_step w u i offset count).answer ≡ taken bs
       → (b : Body) × (rd.draft r ≡ Some b) × (bs ≡ part offset count b.bytes)
-  unfolding take_step
   draft_answer u i offset count bs rd r is holds =
-      section_case P w (w.section u) _ (λ e. refused_taken NotOpen bs e) (λ s e.
-      unless_case P w (ltb 3 i) NoHold _ (λ q. refused_taken NoHold bs q) (λ _.
-      option_case (λ b. P (take_from w offset count b)) (held w (s.hold i)) (λ _ q. refused_taken NoHold bs q)
-      (λ b q. unless_case P w (bad_range offset count) BadRange _ (λ z. refused_taken BadRange bs z) (λ _ z.
+      take_cases P w (λ why z. cc) u i offset count (λ s e b q z.
       (let g = own u s rd e is i r holds in
-      let x : g.1 ≡ b = some_path g.1 b (ap (on_some (λ (y : Slot). y.body)) (sym g.3) ∙ ap (held w) (sym g.2) ∙ q) in
-      (g.1, ap (λ y. draft_in y r) (sym is) ∙ (inv.slots u g.0 (draft_slot r g.1) g.3).3, sym (taken_bytes _ bs z) ∙ ap (λ y. part offset count y.bytes) (sym x)))))))
+      let x : g.1 ≡ b = cc (g.2, g.3) in
+      (g.1, cc (inv.slots u g.0 (draft_slot r g.1) g.3).3, cc (ap (λ y. part offset count y.bytes) x))))
     where
       P : Outcome → Type 0
       P out = out.answer ≡ taken bs → (b : Body) × (rd.draft r ≡ Some b) × (bs ≡ part offset count b.bytes)
 
-module _ (home : Meaning) (highest : ℕ) (ts : List Turn) (x : World) (run : Run (first_hour home highest) ts x) where
+module _ (run : WholeRun) where
   abbrev OwnAt : ℕ → World → Type 0
-  OwnAt k y = OwnHolds y (past home highest ts x run k)
+  OwnAt k y = OwnHolds y (past run k)
 
-  own_kept : Kept home highest ts x run OwnAt
-  own_kept k t y z e inv turned own =
-      subst (OwnHolds z) (sym (before_suc (home_bytes home) ts k t e))
-      (subst (λ v. OwnHolds v (fed k (past home highest ts x run k) t)) turned.leaves
-      (subst (λ a. OwnHolds (step y turned.stamp t.door t.call).after (fed k (past home highest ts x run k) (turn t.door t.call a))) turned.answers
-      (step_owns (seen home highest ts x run) y (past home highest ts x run k) inv own k turned.stamp t.door t.call)))
+  own_kept : Kept run OwnAt
+  own_kept k t y z e inv turned own = behind run OwnHolds k e turned (step_owns (seen run) y (past run k) inv own k turned.stamp t.door t.call)
 
-  takes_own : DraftsOwn (home_bytes home) ts
+  -- at first no section is open
+  own_first : OwnAt 0 (first_hour run.home run.highest)
+  own_first u s rd e = cc
+
+  takes_own : DraftsOwn (home_bytes run.home) run.turns
   takes_own k hold offset count r rd bs at holds =
-      let t = turn_at home highest ts x run OwnAt (λ u s rd e _. none_some s e) own_kept k _ at.is in
-      let s = t.turned.stamp in
-      draft_answer (seen home highest ts x run) t.world (past home highest ts x run k) t.inv t.holds k at.user hold offset count bs rd r at.open_section holds
-      (ap (λ out. out.answer) (sym (accepted_own t.world s at.door (Take at.user hold offset count) (taken bs) t.turned.answers refl)) ∙ t.turned.answers)
+      let t = turn_at run OwnAt own_first own_kept k _ at.is in
+      draft_answer (seen run) t.world (past run k) t.inv t.holds k at.user hold offset count bs rd r at.open_section holds
+      (own_answered t.world t.turned.stamp at.door (Take at.user hold offset count) (taken bs) t.turned.answers refl)
 
 pub drafts_own : OfEveryRun DraftsOwn
-drafts_own home highest ts x reached = takes_own home highest ts x (run_of reached)
+drafts_own home highest ts x reached = takes_own (whole_run reached)

@@ -1,22 +1,24 @@
 -- The invariant at each position of a run, and from it the laws of equal finds and of held bytes.
-use Rattle.std.proofs.Common.{◌≡◌, ℕ, zero, suc, ◌+◌, ◌<◌, ◌≤◌, true, cond, ◌⊎◌, List, [], ◌∷◌, ◌++◌, length, take, drop, Some, None, Option, sym, refl, ap, ◌∙◌, subst, inl, inr, ⊎_elim, add-zero, add-suc, suc-add, zero-add, arith}
-use Rattle.std.proofs.lemmas.Bool.{cases_eq, cases_lt}
+use Rattle.std.proofs.Common.{◌≡◌, ℕ, zero, suc, ◌+◌, ◌<◌, ◌≤◌, true, ◌⊎◌, List, [], ◌∷◌, ◌++◌, length, take, drop, Some, None, sym, refl, ap, ◌∙◌, subst, inl, inr, ⊎_elim, add-zero, add-suc, suc-add, zero-add, arith}
+use Rattle.std.proofs.lemmas.Bool.{cases_eq, cases_lt, cond_both}
+use Rattle.std.proofs.lemmas.Option.{same_Some}
+use mathlib.Core.Path.{subst₂}
 use Rattle.interfaces.specs.Homes.{Meaning}
 use Rattle.model.specs.declared.door.Door.{Door}
 use Rattle.model.specs.declared.body.Body.{Body}
 use Rattle.model.specs.declared.answer.State.{State}
 use Rattle.model.specs.Tools.{put, on_some, nth}
 use Rattle.model.specs.Worlds.{Entry, World, first_hour, home_bytes, part}
-use Rattle.model.specs.Calls.{Call, Open, Find, Take, Lock, Put, Clear, Commit, Abort, Survey, Collect, Tick, Answer, found, taken, committed, Turn, turn, accepted}
+use Rattle.model.specs.Calls.{Call, Open, Find, Take, Lock, Put, Clear, Commit, Abort, Answer, found, taken, committed, Turn, turn, accepted}
 use Rattle.model.specs.Drafts.{version_state}
-use Rattle.model.specs.Steps.{Lawful, own_step, step}
+use Rattle.model.specs.Steps.{Lawful, step}
 use Rattle.model.specs.History.{Reader, History, answered_version, draft, finding, locking, stored, change, fed, replay, outset, before}
 use Rattle.laws.specs.Runs.{Turned, Reached, begun, turned}
 use Rattle.laws.specs.Laws.{FindAt, CommitAt, StoreAt, Between, EqualFinds, StoredBy, HeldBytes}
 use Rattle.laws.specs.Theorems.{OfEveryRun}
-use Rattle.laws.proofs.Basics.{none_some, some_path, bool_case, put_case, on_some_some}
+use Rattle.laws.proofs.Basics.{option_case, put_case, put_on_some}
 use Rattle.laws.proofs.Invariant.{entry, Inv}
-use Rattle.laws.proofs.Answers.{outset_inv, step_good, find_answer, take_answer, commit_answer, accepted_own}
+use Rattle.laws.proofs.Answers.{outset_inv, step_good, find_answer, take_answer, commit_answer, accepted_own, own_answered}
 use Rattle.laws.proofs.Rising.{step_up, commit_stamped}
 
 -- the turns, one after another from the first on, take the world w to the world x
@@ -32,30 +34,43 @@ pub run_of : {w x : World} {ts : List Turn} → Reached w ts x → Run w ts x
 run_of begun = refl
 run_of (turned r t) = run_more _ _ _ _ _ (run_of r) t
 
+-- turns from the first hour over a home, under a highest stamp, and the world that they lead to
+pub record WholeRun : Type 0 where
+  pub home : Meaning
+  pub highest : ℕ
+  pub turns : List Turn
+  pub last : World
+  pub path : Run (first_hour home highest) turns last
+
+abbrev pub whole_run : {home : Meaning} {highest : ℕ} {ts : List Turn} {x : World} → Reached (first_hour home highest) ts x → WholeRun
+whole_run {home} {highest} {ts} {x} r = record { home = home; highest = highest; turns = ts; last = x; path = run_of r }
+
 -- Positions in a list of turns.
 
-gap : (i j : ℕ) → i ≤ j → (d : ℕ) × (i + d ≡ j)
-gap i zero le = (0, omega arith)
-gap i (suc j) le = ⊎_elim (λ e. (0, omega arith)) (λ n. (let g = gap i j (omega arith) in (suc g.0, omega (arith, g.1)))) (cases_eq i (suc j))
+-- what holds at i and goes on from each position to the next holds at j
+along : (P : ℕ → Type 0) (i j : ℕ) → i ≤ j → P i → ((k : ℕ) → i ≤ k → k < j → P k → P (suc k)) → P j
+along P i zero le p on = let e : i ≡ 0 = omega arith in subst P e p
+along P i (suc j) le p on =
+    ⊎_elim (λ e. subst P e p) (λ n. on j (omega arith) (omega arith) (along P i j (omega arith) p (λ k a l q. on k a (omega arith) q))) (cases_eq i (suc j))
 
 pub get_lt : (ts : List Turn) (k : ℕ) (t : Turn) → nth ts k ≡ Some t → k < length ts
-get_lt [] k t e = none_some t e
+get_lt [] k t e = cc
 get_lt (x ∷ xs) zero t e = omega arith
 get_lt (x ∷ xs) (suc k) t e = omega (arith, get_lt xs k t e)
 
 pub get_drop : (ts : List Turn) (k : ℕ) → k < length ts → (t : Turn) × (nth ts k ≡ Some t) × (drop k ts ≡ t ∷ drop (suc k) ts)
-get_drop [] k h = absurd (let f : ⊥ = omega arith in f)
+get_drop [] k h = absurd (omega arith)
 get_drop (x ∷ xs) zero h = (x, refl, refl)
 get_drop (x ∷ xs) (suc k) h = get_drop xs k (omega arith)
 
 replay_suc : (ts : List Turn) (j : ℕ) (h : History) (k : ℕ) (t : Turn) → nth ts k ≡ Some t → replay j h (take (suc k) ts) ≡ fed (j + k) (replay j h (take k ts)) t
-replay_suc [] j h k t e = none_some t e
-replay_suc (x ∷ xs) j h zero t e = ap (fed j h) (some_path x t e) ∙ ap (λ y. fed y h t) (sym (add-zero j))
-replay_suc (x ∷ xs) j h (suc k) t e = replay_suc xs (suc j) (fed j h x) k t e ∙ ap (λ y. fed y (replay (suc j) (fed j h x) (take k xs)) t) (suc-add j k ∙ sym (add-suc j k))
+replay_suc [] j h k t e = cc
+replay_suc (x ∷ xs) j h zero t e = cc (add-zero j)
+replay_suc (x ∷ xs) j h (suc k) t e = cc (replay_suc xs (suc j) (fed j h x) k t e, suc-add j k, add-suc j k)
 
 module _ (first : ℕ → List ℕ) (ts : List Turn) where
   pub before_suc : (k : ℕ) (t : Turn) → nth ts k ≡ Some t → before first ts (suc k) ≡ fed k (before first ts k) t
-  before_suc k t e = replay_suc ts 0 (outset first) k t e ∙ ap (λ y. fed y (before first ts k) t) (zero-add k)
+  before_suc k t e = cc (replay_suc ts 0 (outset first) k t e, zero-add k)
 
   -- what an open section remembers of its opening
   pub record OpenedBy (k o : ℕ) : Type 0 where
@@ -66,7 +81,7 @@ module _ (first : ℕ → List ℕ) (ts : List Turn) where
     pub is : nth ts o ≡ Some (turn door (Open user) answer)
 
   later : (k o : ℕ) → OpenedBy k o → OpenedBy (suc k) o
-  later k o b = record { earlier = omega (arith, b.earlier); door = b.door; user = b.user; answer = b.answer; is = b.is }
+  later k o b = record { earlier = omega arith; door = b.door; user = b.user; answer = b.answer; is = b.is }
 
   opened_change : (k : ℕ) (h : History) (d : Door) (call : Call) (a : Answer) → nth ts k ≡ Some (turn d call a)
       → ((u : ℕ) (rd : Reader) → h.section u ≡ Some rd → OpenedBy k rd.opened_at)
@@ -78,50 +93,58 @@ module _ (first : ℕ → List ℕ) (ts : List Turn) where
 
       changed : (f : Reader → Reader) → ((x : Reader) → (f x).opened_at ≡ x.opened_at) → (v u : ℕ) (rd : Reader) → put h.section v (on_some f (h.section v)) u ≡ Some rd → OpenedBy (suc k) rd.opened_at
       changed f same v u rd =
-          put_case (λ y. y ≡ Some rd → OpenedBy (suc k) rd.opened_at) h.section v (on_some f (h.section v)) u
-          (λ _ q. (let g = on_some_some f (h.section v) rd q in subst (OpenedBy (suc k)) (sym (same g.0) ∙ ap (λ y. y.opened_at) g.2) (kept v g.0 g.1))) (λ _ q. kept u rd q)
+          put_on_some (OpenedBy (suc k) rd.opened_at) h.section v f u rd (λ y _ i q. subst (OpenedBy (suc k)) (sym (same y) ∙ ap (λ y. y.opened_at) q) (kept u y i)) (kept u rd)
 
       closed : (v u : ℕ) (rd : Reader) → put h.section v None u ≡ Some rd → OpenedBy (suc k) rd.opened_at
-      closed v u rd = put_case (λ y. y ≡ Some rd → OpenedBy (suc k) rd.opened_at) h.section v None u (λ _ q. none_some rd q) (λ _ q. kept u rd q)
+      closed v u rd = put_case (λ y. y ≡ Some rd → OpenedBy (suc k) rd.opened_at) h.section v None u (λ _ q. cc) (λ _ q. kept u rd q)
 
       go : (call : Call) → nth ts k ≡ Some (turn d call a) → (u : ℕ) (rd : Reader) → (change k h call a).section u ≡ Some rd → OpenedBy (suc k) rd.opened_at
       go (Open v) e u rd =
           put_case (λ y. y ≡ Some rd → OpenedBy (suc k) rd.opened_at) h.section v _ u
-          (λ _ q. subst (OpenedBy (suc k)) (ap (λ y. y.opened_at) (some_path _ rd q)) (record { earlier = omega arith; door = d; user = v; answer = a; is = e })) (λ _ q. kept u rd q)
+          (λ _ q. subst (OpenedBy (suc k)) (ap (λ y. y.opened_at) (same_Some _ rd q)) (record { earlier = omega arith; door = d; user = v; answer = a; is = e })) (λ _ q. kept u rd q)
       go (Find v i r) e u rd = changed (finding i r (answered_version a)) (λ x. refl) v u rd
-      go (Take v i offset count) e u rd = kept u rd
       go (Lock v r) e u rd = changed (locking r (h.entries r).last.body) (λ x. refl) v u rd
       go (Put v r offset bytes) e u rd = changed _ (λ x. refl) v u rd
       go (Clear v r) e u rd = changed _ (λ x. refl) v u rd
       go (Commit v) e u rd = closed v u rd
       go (Abort v) e u rd = closed v u rd
-      go Survey e u rd = kept u rd
-      go (Collect v) e u rd = kept u rd
-      go (Tick t) e u rd = kept u rd
+      go _ e u rd = kept u rd
 
   opened_fed : (k : ℕ) (h : History) (t : Turn) → nth ts k ≡ Some t → ((u : ℕ) (rd : Reader) → h.section u ≡ Some rd → OpenedBy k rd.opened_at)
       → (u : ℕ) (rd : Reader) → (fed k h t).section u ≡ Some rd → OpenedBy (suc k) rd.opened_at
   opened_fed k h t e ih u rd =
-      bool_case (λ b. (cond b (change k h t.call t.answer) h).section u ≡ Some rd → OpenedBy (suc k) rd.opened_at) (accepted t.answer)
+      cond_both (accepted t.answer) (change k h t.call t.answer) h (λ (y : History). y.section u ≡ Some rd → OpenedBy (suc k) rd.opened_at)
       (λ _. opened_change k h t.door t.call t.answer e ih u rd) (λ _ q. later k rd.opened_at (ih u rd q))
 
   opened_by : (k : ℕ) → k ≤ length ts → (u : ℕ) (rd : Reader) → (before first ts k).section u ≡ Some rd → OpenedBy k rd.opened_at
-  opened_by zero le u rd e = none_some rd e
+  opened_by zero le u rd e = cc
   opened_by (suc k) le u rd e =
       let g = get_drop ts k (omega arith) in
       opened_fed k (before first ts k) g.0 g.1 (opened_by k (omega arith)) u rd (subst (λ y. y.section u ≡ Some rd) (before_suc k g.0 g.1) e)
 
-module _ (home : Meaning) (highest : ℕ) (ts : List Turn) (x : World) (run : Run (first_hour home highest) ts x) where
+module _ (run : WholeRun) where
+  abbrev first : ℕ → List ℕ
+  first = home_bytes run.home
+
+  abbrev ts : List Turn
+  ts = run.turns
+
   abbrev pub past : ℕ → History
-  past k = before (home_bytes home) ts k
+  past k = before first ts k
 
   -- the last entry of r before the turn at k
   abbrev pub seen : ℕ → ℕ → Entry
-  seen k r = ((before (home_bytes home) ts k).entries r).last
+  seen k r = ((before first ts k).entries r).last
 
   -- a fact of positions and worlds that every turn keeps
   abbrev pub Kept : (ℕ → World → Type 0) → Type 0
   Kept P = (k : ℕ) (t : Turn) (y z : World) → nth ts k ≡ Some t → Inv seen y (past k) → Turned y t z → P k y → P (suc k) z
+
+  -- what holds of the outcome of a turn holds behind it
+  pub behind : (Q : World → History → Type 0) (k : ℕ) {t : Turn} {y z : World} → nth ts k ≡ Some t → (d : Turned y t z)
+      → Q (step y d.stamp t.door t.call).after (fed k (past k) (turn t.door t.call (step y d.stamp t.door t.call).answer)) → Q z (past (suc k))
+  behind Q k {t} {y} {z} e d q =
+      subst (Q z) (sym (before_suc first ts k t e)) (subst₂ (λ v a. Q v (fed k (past k) (turn t.door t.call a))) d.leaves d.answers q)
 
   -- the turn at k, with the worlds before and behind it
   pub record TurnAt (P : ℕ → World → Type 0) (k : ℕ) (t : Turn) : Type 0 where
@@ -131,72 +154,62 @@ module _ (home : Meaning) (highest : ℕ) (ts : List Turn) (x : World) (run : Ru
     pub behind : World
     pub turned : Turned world t behind
 
-  module _ (P : ℕ → World → Type 0) (first : P 0 (first_hour home highest)) (kept : Kept P) where
+  module _ (P : ℕ → World → Type 0) (begins : P 0 (first_hour run.home run.highest)) (kept : Kept P) where
     record At (k : ℕ) : Type 0 where
       world : World
       inv : Inv seen world (past k)
       holds : P k world
-      rest : Run world (drop k ts) x
+      rest : Run world (drop k ts) run.last
 
     at : (k : ℕ) → k ≤ length ts → At k
-    at zero le = record { world = first_hour home highest; inv = outset_inv seen home highest; holds = first; rest = run }
+    at zero le = record { world = first_hour run.home run.highest; inv = outset_inv seen run.home run.highest; holds = begins; rest = run.path }
     at (suc k) le =
         let a = at k (omega arith) in
         let g = get_drop ts k (omega arith) in
         let t = g.0 in
-        let c = subst (λ l. Run a.world l x) g.2 a.rest in
-        let d = c.1 in
-        let s = step_good seen a.world (past k) a.inv k d.stamp t.door t.call (λ r. refl) d.lawful in
-        let n : Inv seen c.0 (fed k (past k) t) =
-        subst (λ y. Inv seen y (fed k (past k) t)) d.leaves
-        (subst (λ y. Inv seen (step a.world d.stamp t.door t.call).after (fed k (past k) (turn t.door t.call y))) d.answers s) in
-        record { world = c.0; inv = subst (Inv seen c.0) (sym (before_suc (home_bytes home) ts k t g.1)) n; holds = kept k t a.world c.0 g.1 a.inv d a.holds; rest = c.2 }
+        let c = subst (λ l. Run a.world l run.last) g.2 a.rest in
+        let n = behind (Inv seen) k g.1 c.1 (step_good seen a.world (past k) a.inv k c.1.stamp t.door t.call (λ r. refl) c.1.lawful) in
+        record { world = c.0; inv = n; holds = kept k t a.world c.0 g.1 a.inv c.1 a.holds; rest = c.2 }
 
     pub turn_at : (k : ℕ) (t : Turn) → nth ts k ≡ Some t → TurnAt P k t
     turn_at k t e =
         let lt = get_lt ts k t e in
         let a = at k (omega arith) in
         let g = get_drop ts k lt in
-        let c = subst (λ l. Run a.world l x) (g.2 ∙ ap (λ y. y ∷ drop (suc k) ts) (some_path g.0 t (sym g.1 ∙ e))) a.rest in
+        let c = subst (λ l. Run a.world l run.last) (g.2 ∙ ap (λ y. y ∷ drop (suc k) ts) (same_Some g.0 t (sym g.1 ∙ e))) a.rest in
         record { world = a.world; inv = a.inv; holds = a.holds; behind = c.0; turned = c.1 }
 
   -- Commits.
 
   -- no commit before has answered above the highest stamp
-  Bounded : ℕ → World → Type 0
-  Bounded k w = (n c : ℕ) → CommitAt (home_bytes home) ts n c → n < k → c ≤ w.highest
+  abbrev Bounded : ℕ → World → Type 0
+  Bounded k w = (n c : ℕ) → CommitAt first ts n c → n < k → c ≤ w.highest
 
   bounded : Kept Bounded
-  unfolding Bounded
   bounded k t y z e inv d ih n c at lt =
-      ⊎_elim (λ q. here (some_path _ t (sym at.is ∙ ap (nth ts) q ∙ e)))
+      ⊎_elim (λ q. subst (λ v. Turned y v z → c ≤ z.highest) (same_Some _ t (sym at.is ∙ ap (nth ts) q ∙ e)) own d)
       (λ ne. (let up = step_up y d.stamp t.door t.call d.lawful in
       let low = ih n c at (omega arith) in
       let after : (step y d.stamp t.door t.call).after.highest ≡ z.highest = ap (λ v. v.highest) d.leaves in
-      omega (arith, up, low, after))) (cases_eq n k)
+      omega arith)) (cases_eq n k)
     where
-      here : turn at.door (Commit at.user) (committed c) ≡ t → c ≤ z.highest
-      here q = again (subst (λ v. Turned y v z) (sym q) d)
-        where
-          again : Turned y (turn at.door (Commit at.user) (committed c)) z → c ≤ z.highest
-          again d =
-              let st = commit_stamped y d.stamp at.door at.user c d.lawful d.answers in
-              let after : (step y d.stamp at.door (Commit at.user)).after.highest ≡ z.highest = ap (λ v. v.highest) d.leaves in
-              omega (arith, st.low, after)
+      own : Turned y (turn at.door (Commit at.user) (committed c)) z → c ≤ z.highest
+      own d =
+          let st = commit_stamped y d.stamp at.door at.user c d.lawful d.answers in
+          let after : (step y d.stamp at.door (Commit at.user)).after.highest ≡ z.highest = ap (λ v. v.highest) d.leaves in
+          omega arith
 
-  commit_turn : (m c : ℕ) (at : CommitAt (home_bytes home) ts m c) → TurnAt Bounded m (turn at.door (Commit at.user) (committed c))
-  unfolding Bounded
-  commit_turn m c at = turn_at Bounded (λ n c at lt. absurd (let f : ⊥ = omega arith in f)) bounded m _ at.is
+  commit_turn : (m c : ℕ) (at : CommitAt first ts m c) → TurnAt Bounded m (turn at.door (Commit at.user) (committed c))
+  commit_turn m c at = turn_at Bounded (λ n c at lt. absurd (omega arith)) bounded m _ at.is
 
   -- two commits never answer the same stamp above 0
-  once : (n m c : ℕ) → CommitAt (home_bytes home) ts n c → CommitAt (home_bytes home) ts m c → 0 < c → n < m → ⊥
-  unfolding Bounded
+  once : (n m c : ℕ) → CommitAt first ts n c → CommitAt first ts m c → 0 < c → n < m → ⊥
   once n m c a b pos lt =
       let t = commit_turn m c b in
       let d = t.turned in
       let st = commit_stamped t.world d.stamp b.door b.user c d.lawful d.answers in
       let low = t.holds n c a lt in
-      omega (arith, low, st.new pos)
+      omega (arith, st.new pos)
 
   -- what stands at a turn, with no other fact
   turned_at : (k : ℕ) (t : Turn) → nth ts k ≡ Some t → TurnAt (λ _ _. Unit {0}) k t
@@ -210,98 +223,74 @@ module _ (home : Meaning) (highest : ℕ) (ts : List Turn) (x : World) (run : Ru
       let own = accepted_own y.world y.turned.stamp d (Commit u) a y.turned.answers t in
       let z = commit_answer seen y.world (past k) y.inv y.turned.stamp u r b a carries
       (subst (λ out. Lawful y.world.highest y.turned.stamp out.drawn) own y.turned.lawful) (sym (ap (λ out. out.answer) own) ∙ y.turned.answers) t in
-      (z.0, z.1, omega (arith, (y.inv.ledgers r).bound, z.2))
+      (z.0, z.1, omega (arith, (y.inv.ledgers r).bound))
 
   -- a commit of r at m: the last entry after it, and its version is new
-  commit_last : (m r c : ℕ) (b : Body) → StoreAt (home_bytes home) ts m r c b → (seen (suc m) r ≡ entry c b) × ((seen m r).version < c)
+  commit_last : (m r c : ℕ) (b : Body) → StoreAt first ts m r c b → (seen (suc m) r ≡ entry c b) × ((seen m r).version < c)
   commit_last m r c b k =
-      (ap (λ y. (y.entries r).last) (before_suc (home_bytes home) ts m _ k.commit.is) ∙ ap (λ d. (stored c d ((past m).entries r)).last) k.carries, new)
-    where
-      same_stamp : (y z : ℕ) → committed y ≡ committed z → y ≡ z
-      same_stamp y z e = cc
+      let a = carrying m k.commit.user r k.commit.door (committed c) b k.commit.is refl k.carries in
+      let e : c ≡ a.0 = cc a.1 in
+      (ap (λ y. (y.entries r).last) (before_suc first ts m _ k.commit.is) ∙ ap (λ d. (stored c d ((past m).entries r)).last) k.carries, omega arith)
 
-      new : (seen m r).version < c
-      new =
-          let a = carrying m k.commit.user r k.commit.door (committed c) b k.commit.is refl k.carries in
-          let e = same_stamp c a.0 a.1 in
-          omega (arith, a.2, e)
+  -- the turn at k is a commit of r
+  abbrev Stores : ℕ → ℕ → Type 0
+  Stores k r = (c : ℕ) × (b : Body) × StoreAt first ts k r c b
 
   -- one turn leaves the last entry of r, or is a commit of r
-  one_turn : (k r : ℕ) → k < length ts → (seen (suc k) r ≡ seen k r) ⊎ ((c : ℕ) × (b : Body) × StoreAt (home_bytes home) ts k r c b)
+  one_turn : (k r : ℕ) → k < length ts → (seen (suc k) r ≡ seen k r) ⊎ Stores k r
   one_turn k r lt =
       let g = get_drop ts k lt in
-      subst (λ y. ((y.entries r).last ≡ seen k r) ⊎ ((c : ℕ) × (b : Body) × StoreAt (home_bytes home) ts k r c b)) (sym (before_suc (home_bytes home) ts k g.0 g.1))
-      (bool_case (λ z. (((cond z (change k (past k) g.0.call g.0.answer) (past k)).entries r).last ≡ seen k r) ⊎ ((c : ℕ) × (b : Body) × StoreAt (home_bytes home) ts k r c b)) (accepted g.0.answer)
+      subst (λ y. ((y.entries r).last ≡ seen k r) ⊎ Stores k r) (sym (before_suc first ts k g.0 g.1))
+      (cond_both (accepted g.0.answer) (change k (past k) g.0.call g.0.answer) (past k) (λ (y : History). ((y.entries r).last ≡ seen k r) ⊎ Stores k r)
       (λ t. by g.0.door g.0.call g.0.answer g.1 t) (λ _. inl refl))
     where
       by : (d : Door) (call : Call) (a : Answer) → nth ts k ≡ Some (turn d call a) → accepted a ≡ true
-          → (((change k (past k) call a).entries r).last ≡ seen k r) ⊎ ((c : ℕ) × (b : Body) × StoreAt (home_bytes home) ts k r c b)
-      by d (Open u) a e t = inl refl
-      by d (Find u i q) a e t = inl refl
-      by d (Take u i offset count) a e t = inl refl
-      by d (Lock u q) a e t = inl refl
-      by d (Put u q offset bytes) a e t = inl refl
-      by d (Clear u q) a e t = inl refl
-      by d (Abort u) a e t = inl refl
-      by d Survey a e t = inl refl
-      by d (Collect u) a e t = inl refl
-      by d (Tick y) a e t = inl refl
-      by d (Commit u) a e t = go (draft (past k) u r) refl
-        where
-          go : (d : Option Body) → draft (past k) u r ≡ d → ((stored (answered_version a) d ((past k).entries r)).last ≡ seen k r) ⊎ ((c : ℕ) × (b : Body) × StoreAt (home_bytes home) ts k r c b)
-          go None q = inl refl
-          go (Some b) q =
-              let z = carrying k u r d a b e t q in
-              inr (z.0, b, record { commit = record { door = d; user = u; is = e ∙ ap (λ v. Some (turn d (Commit u) v)) z.1 }; carries = q })
+          → (((change k (past k) call a).entries r).last ≡ seen k r) ⊎ Stores k r
+      by d (Commit u) a e t =
+          option_case (λ o. ((stored (answered_version a) o ((past k).entries r)).last ≡ seen k r) ⊎ Stores k r) (draft (past k) u r) (λ _. inl refl)
+          (λ b q. (let z = carrying k u r d a b e t q in
+          inr (z.0, b, record { commit = record { door = d; user = u; is = e ∙ ap (λ v. Some (turn d (Commit u) v)) z.1 }; carries = q })))
+      by d _ a e t = inl refl
 
   -- versions only grow
   grow_one : (k r : ℕ) → k < length ts → (seen k r).version ≤ (seen (suc k) r).version
   grow_one k r lt =
-      ⊎_elim (λ e. let q : (seen (suc k) r).version ≡ (seen k r).version = ap (λ y. y.version) e in omega (arith, q))
-      (λ z. let l = commit_last k r z.0 z.1 z.2 in let q : (seen (suc k) r).version ≡ z.0 = ap (λ y. y.version) l.0 in omega (arith, q, l.1)) (one_turn k r lt)
-
-  grow : (i d r : ℕ) → i + d ≤ length ts → (seen i r).version ≤ (seen (i + d) r).version
-  grow i zero r le = subst (λ y. (seen i r).version ≤ (seen y r).version) (sym (add-zero i)) (omega arith)
-  grow i (suc d) r le =
-      subst (λ y. (seen i r).version ≤ (seen y r).version) (sym (add-suc i d)) (omega (arith, grow i d r (omega arith), grow_one (i + d) r (omega arith)))
+      ⊎_elim (λ e. let q : (seen (suc k) r).version ≡ (seen k r).version = ap (λ y. y.version) e in omega arith)
+      (λ z. let l = commit_last k r z.0 z.1 z.2 in let q : (seen (suc k) r).version ≡ z.0 = ap (λ y. y.version) l.0 in omega arith) (one_turn k r lt)
 
   grows : (i j r : ℕ) → i ≤ j → j ≤ length ts → (seen i r).version ≤ (seen j r).version
-  grows i j r le lj = let g = gap i j le in subst (λ y. (seen i r).version ≤ (seen y r).version) g.1 (grow i g.0 r (omega (arith, g.1)))
+  grows i j r le lj = along (λ y. (seen i r).version ≤ (seen y r).version) i j le (omega arith) (λ k a l ih. omega (arith, grow_one k r (omega arith)))
 
   -- with no commit of r on the way the last entry stays
-  same_last : (i d r : ℕ) → i + d ≤ length ts → ((m c : ℕ) (b : Body) → StoreAt (home_bytes home) ts m r c b → i ≤ m → m < i + d → ⊥) → seen (i + d) r ≡ seen i r
-  same_last i zero r le no' = ap (λ y. seen y r) (add-zero i)
-  same_last i (suc d) r le no' =
-      ap (λ y. seen y r) (add-suc i d)
-      ∙ ⊎_elim (λ e. e) (λ z. absurd (no' (i + d) z.0 z.1 z.2 (omega arith) (omega arith))) (one_turn (i + d) r (omega arith))
-      ∙ same_last i d r (omega arith) (λ m c b k a l. no' m c b k a (omega arith))
+  same_between : (i j r : ℕ) → i ≤ j → j ≤ length ts → ((m c : ℕ) (b : Body) → StoreAt first ts m r c b → i ≤ m → m < j → ⊥) → seen j r ≡ seen i r
+  same_between i j r le lj no' =
+      along (λ y. seen y r ≡ seen i r) i j le refl (λ k a l ih. ⊎_elim (λ e. e ∙ ih) (λ z. absurd (no' k z.0 z.1 z.2 a l)) (one_turn k r (omega arith)))
 
   -- where the last entry came from
   pub record Origin (k r : ℕ) : Type 0 where
     pub m : ℕ
     pub c : ℕ
     pub b : Body
-    pub commit : StoreAt (home_bytes home) ts m r c b
+    pub commit : StoreAt first ts m r c b
     pub earlier : m < k
     pub is : seen k r ≡ entry c b
 
   origin : (k r : ℕ) → k ≤ length ts → (seen k r ≡ seen 0 r) ⊎ Origin k r
-  origin zero r le = inl refl
-  origin (suc k) r le = ⊎_elim (old (origin k r (omega arith))) new (one_turn k r (omega arith))
+  origin k r le = along (λ y. (seen y r ≡ seen 0 r) ⊎ Origin y r) 0 k (omega arith) (inl refl) (λ j a l ih. ⊎_elim (old j ih) (new j) (one_turn j r (omega arith)))
     where
-      old : (seen k r ≡ seen 0 r) ⊎ Origin k r → seen (suc k) r ≡ seen k r → (seen (suc k) r ≡ seen 0 r) ⊎ Origin (suc k) r
-      old (inl e) q = inl (q ∙ e)
-      old (inr o) q = inr (record { m = o.m; c = o.c; b = o.b; commit = o.commit; earlier = omega (arith, o.earlier); is = q ∙ o.is })
+      old : (j : ℕ) → (seen j r ≡ seen 0 r) ⊎ Origin j r → seen (suc j) r ≡ seen j r → (seen (suc j) r ≡ seen 0 r) ⊎ Origin (suc j) r
+      old j (inl e) q = inl (q ∙ e)
+      old j (inr o) q = inr (record { m = o.m; c = o.c; b = o.b; commit = o.commit; earlier = omega arith; is = q ∙ o.is })
 
-      new : ((c : ℕ) × (b : Body) × StoreAt (home_bytes home) ts k r c b) → (seen (suc k) r ≡ seen 0 r) ⊎ Origin (suc k) r
-      new z = inr (record { m = k; c = z.0; b = z.1; commit = z.2; earlier = omega arith; is = (commit_last k r z.0 z.1 z.2).0 })
+      new : (j : ℕ) → Stores j r → (seen (suc j) r ≡ seen 0 r) ⊎ Origin (suc j) r
+      new j z = inr (record { m = j; c = z.0; b = z.1; commit = z.2; earlier = omega arith; is = (commit_last j r z.0 z.1 z.2).0 })
 
   -- a commit of r between two positions tells the versions apart
-  pub apart : (i j r m c : ℕ) (b : Body) → StoreAt (home_bytes home) ts m r c b → i ≤ m → m < j → j ≤ length ts → (seen i r).version < (seen j r).version
+  pub apart : (i j r m c : ℕ) (b : Body) → StoreAt first ts m r c b → i ≤ m → m < j → j ≤ length ts → (seen i r).version < (seen j r).version
   apart i j r m c b k le lt lj =
       let l = commit_last m r c b k in
       let q : (seen (suc m) r).version ≡ c = ap (λ y. y.version) l.0 in
-      omega (arith, grows i m r le (omega arith), l.1, q, grows (suc m) j r lt lj)
+      omega (arith, grows i m r le (omega arith), grows (suc m) j r lt lj)
 
   -- Equal finds.
 
@@ -310,38 +299,28 @@ module _ (home : Meaning) (highest : ℕ) (ts : List Turn) (x : World) (run : Ru
     state : st ≡ version_state (seen o r).body.mark
     version : v ≡ (seen o r).version
     fits : o < length ts
-    opens : (m c : ℕ) (b : Body) → StoreAt (home_bytes home) ts m r c b → m ≡ o → ⊥
+    opens : (m c : ℕ) (b : Body) → StoreAt first ts m r c b → m ≡ o → ⊥
 
-  commit_open : (d e : Door) (c u v : ℕ) (a : Answer) → Some (turn d (Commit u) (committed c)) ≡ Some (turn e (Open v) a) → ⊥
-  commit_open d e c u v a p =
-      let q : Commit u ≡ Open v = ap (λ (t : Turn). t.call) (some_path (turn d (Commit u) (committed c)) (turn e (Open v) a) p) in
-      let z : ◌≡◌ {A = ℕ} 0 1 = cc in omega arith
+  -- a turn that opens is no commit
+  no_commit : (d e : Door) (c u v : ℕ) (a : Answer) → Some (turn d (Commit u) (committed c)) ≡ Some (turn e (Open v) a) → ⊥
+  no_commit d e c u v a p = cc (ap (λ (t : Turn). t.call) (same_Some (turn d (Commit u) (committed c)) (turn e (Open v) a) p))
 
-  -- an accepted turn is answered by the own step
-  own_answer : (k : ℕ) (d : Door) (call : Call) (a : Answer) (t : TurnAt (λ _ _. Unit {0}) k (turn d call a)) → accepted a ≡ true → (own_step t.world t.turned.stamp call).answer ≡ a
-  own_answer k d call a t yes' = sym (ap (λ out. out.answer) (accepted_own t.world t.turned.stamp d call a t.turned.answers yes')) ∙ t.turned.answers
-
-  saw : (k r o : ℕ) (st : State) (v : ℕ) → FindAt (home_bytes home) ts k r o st v → Saw r o st v
+  saw : (k r o : ℕ) (st : State) (v : ℕ) → FindAt first ts k r o st v → Saw r o st v
   saw k r o st v f =
       let t = turned_at k _ f.is in
       let a = find_answer seen t.world (past k) t.inv f.user f.hold r st v f.reader f.open_section f.no_draft
-      (own_answer k f.door (Find f.user f.hold r) (found st v) t refl) in
+      (own_answered t.world t.turned.stamp f.door (Find f.user f.hold r) (found st v) t.turned.answers refl) in
       let lt = get_lt ts k _ f.is in
-      let b = opened_by (home_bytes home) ts k (omega arith) f.user f.reader f.open_section in
+      let b = opened_by first ts k (omega arith) f.user f.reader f.open_section in
       subst (λ y. Saw r y st v) f.opened
       (record {
         state = a.0;
         version = a.1;
-        fits = omega (arith, b.earlier, lt);
-        opens = λ m c y z e. commit_open z.commit.door b.door c z.commit.user b.user b.answer (sym z.commit.is ∙ ap (nth ts) e ∙ b.is);
+        fits = omega arith;
+        opens = λ m c y z e. no_commit z.commit.door b.door c z.commit.user b.user b.answer (sym z.commit.is ∙ ap (nth ts) e ∙ b.is);
       })
 
-  same_between : (i j r : ℕ) → i ≤ j → j ≤ length ts → ((m c : ℕ) (b : Body) → StoreAt (home_bytes home) ts m r c b → i ≤ m → m < j → ⊥) → seen j r ≡ seen i r
-  same_between i j r le lj no' =
-      let g = gap i j le in
-      subst (λ y. seen y r ≡ seen i r) g.1 (same_last i g.0 r (omega (arith, g.1)) (λ m c b k a l. no' m c b k a (omega (arith, g.1))))
-
-  find_law : EqualFinds (home_bytes home) ts
+  find_law : EqualFinds first ts
   find_law k₁ k₂ r o₁ o₂ v₁ v₂ st₁ st₂ f₁ f₂ = (only, whenever)
     where
       s₁ : Saw r o₁ st₁ v₁
@@ -350,24 +329,24 @@ module _ (home : Meaning) (highest : ℕ) (ts : List Turn) (x : World) (run : Ru
       s₂ : Saw r o₂ st₂ v₂
       s₂ = saw k₂ r o₂ st₂ v₂ f₂
 
-      only : (v₁ ≡ v₂) × (st₁ ≡ st₂) → (m c : ℕ) (b : Body) → StoreAt (home_bytes home) ts m r c b → Between (home_bytes home) ts o₁ m o₂ → ⊥
-      only e m c b k (inl z) = omega (arith, apart o₁ o₂ r m c b k (omega (arith, z.0)) z.1 (omega (arith, s₂.fits)), s₁.version, s₂.version, e.0)
-      only e m c b k (inr z) = omega (arith, apart o₂ o₁ r m c b k (omega (arith, z.0)) z.1 (omega (arith, s₁.fits)), s₁.version, s₂.version, e.0)
+      only : (v₁ ≡ v₂) × (st₁ ≡ st₂) → (m c : ℕ) (b : Body) → StoreAt first ts m r c b → Between first ts o₁ m o₂ → ⊥
+      only e m c b k (inl z) = omega (arith, apart o₁ o₂ r m c b k (omega arith) z.1 (omega (arith, s₂.fits)), s₁.version, s₂.version)
+      only e m c b k (inr z) = omega (arith, apart o₂ o₁ r m c b k (omega arith) z.1 (omega (arith, s₁.fits)), s₁.version, s₂.version)
 
       equal : seen o₁ r ≡ seen o₂ r → (v₁ ≡ v₂) × (st₁ ≡ st₂)
       equal q = (s₁.version ∙ ap (λ y. y.version) q ∙ sym s₂.version, s₁.state ∙ ap (λ y. version_state y.body.mark) q ∙ sym s₂.state)
 
-      whenever : ((m c : ℕ) (b : Body) → StoreAt (home_bytes home) ts m r c b → Between (home_bytes home) ts o₁ m o₂ → ⊥) → (v₁ ≡ v₂) × (st₁ ≡ st₂)
+      whenever : ((m c : ℕ) (b : Body) → StoreAt first ts m r c b → Between first ts o₁ m o₂ → ⊥) → (v₁ ≡ v₂) × (st₁ ≡ st₂)
       whenever no' =
-          ⊎_elim (λ lt. equal (sym (same_between o₁ o₂ r (omega (arith, lt)) (omega (arith, s₂.fits))
-          (λ m c b k a l. ⊎_elim (λ e. s₁.opens m c b k e) (λ n. no' m c b k (inl (omega (arith, a, n), l))) (cases_eq m o₁)))))
+          ⊎_elim (λ lt. equal (sym (same_between o₁ o₂ r (omega arith) (omega (arith, s₂.fits))
+          (λ m c b k a l. ⊎_elim (λ e. s₁.opens m c b k e) (λ n. no' m c b k (inl (omega arith, l))) (cases_eq m o₁)))))
           (λ le. equal (same_between o₂ o₁ r le (omega (arith, s₁.fits))
-          (λ m c b k a l. ⊎_elim (λ e. s₂.opens m c b k e) (λ n. no' m c b k (inr (omega (arith, a, n), l))) (cases_eq m o₂))))
+          (λ m c b k a l. ⊎_elim (λ e. s₂.opens m c b k e) (λ n. no' m c b k (inr (omega arith, l))) (cases_eq m o₂))))
           (cases_lt o₁ o₂)
 
   -- Held bytes.
 
-  take_law : HeldBytes (home_bytes home) ts
+  take_law : HeldBytes first ts
   take_law k hold offset count r v reader bs f holds = (above, zero_case)
     where
       o : ℕ
@@ -376,14 +355,14 @@ module _ (home : Meaning) (highest : ℕ) (ts : List Turn) (x : World) (run : Ru
       fits : o ≤ length ts
       fits =
           let lt = get_lt ts k _ f.is in
-          let b = opened_by (home_bytes home) ts k (omega arith) f.user reader f.open_section in
-          omega (arith, b.earlier, lt)
+          let b = opened_by first ts k (omega arith) f.user reader f.open_section in
+          omega arith
 
       answer : (v ≡ (seen o r).version) × (bs ≡ part offset count (seen o r).body.bytes)
       answer =
           let t = turned_at k _ f.is in
           take_answer seen t.world (past k) t.inv f.user hold offset count bs reader r v f.open_section holds
-          (own_answer k f.door (Take f.user hold offset count) (taken bs) t refl)
+          (own_answered t.world t.turned.stamp f.door (Take f.user hold offset count) (taken bs) t.turned.answers refl)
 
       first_zero : seen o r ≡ seen 0 r → v ≡ 0
       first_zero e = answer.0 ∙ ap (λ y. y.version) e
@@ -391,29 +370,29 @@ module _ (home : Meaning) (highest : ℕ) (ts : List Turn) (x : World) (run : Ru
       stamp : (g : Origin o r) → v ≡ g.c
       stamp g = answer.0 ∙ ap (λ y. y.version) g.is
 
-      above : 0 < v → (m : ℕ) × (b : Body) × StoredBy (home_bytes home) ts r v o m b × (bs ≡ part offset count b.bytes)
+      above : 0 < v → (m : ℕ) × (b : Body) × StoredBy first ts r v o m b × (bs ≡ part offset count b.bytes)
       above pos =
-          ⊎_elim (λ e. absurd (let f : ⊥ = omega (arith, pos, first_zero e) in f))
-          (λ g. (let k : StoreAt (home_bytes home) ts g.m r v g.b = subst (λ y. StoreAt (home_bytes home) ts g.m r y g.b) (sym (stamp g)) g.commit in (
+          ⊎_elim (λ e. absurd (omega (arith, first_zero e)))
+          (λ g. (let k : StoreAt first ts g.m r v g.b = subst (λ y. StoreAt first ts g.m r y g.b) (sym (stamp g)) g.commit in (
             g.m,
             g.b,
             record {
               stores = k;
               earlier = g.earlier;
               only = λ n a. ⊎_elim (λ lt. absurd (once n g.m v a k.commit pos lt))
-                  (λ le. ⊎_elim (λ e. e) (λ ne. absurd (once g.m n v k.commit a pos (omega (arith, le, ne)))) (cases_eq n g.m)) (cases_lt n g.m);
+                  (λ le. ⊎_elim (λ e. e) (λ ne. absurd (once g.m n v k.commit a pos (omega arith))) (cases_eq n g.m)) (cases_lt n g.m);
             },
             answer.1 ∙ ap (λ y. part offset count y.body.bytes) g.is,
           )))
           (origin o r fits)
 
-      zero_case : v ≡ 0 → bs ≡ part offset count (home_bytes home r)
+      zero_case : v ≡ 0 → bs ≡ part offset count (first r)
       zero_case z =
           ⊎_elim (λ e. answer.1 ∙ ap (λ y. part offset count y.body.bytes) e)
-          (λ g. absurd (let q = (commit_last g.m r g.c g.b g.commit).1 in let f : ⊥ = omega (arith, q, stamp g, z) in f)) (origin o r fits)
+          (λ g. absurd (omega (arith, (commit_last g.m r g.c g.b g.commit).1, stamp g))) (origin o r fits)
 
 pub equal_finds : OfEveryRun EqualFinds
-equal_finds home highest ts w r = find_law home highest ts w (run_of r)
+equal_finds home highest turns w r = find_law (whole_run r)
 
 pub held_bytes : OfEveryRun HeldBytes
-held_bytes home highest ts w r = take_law home highest ts w (run_of r)
+held_bytes home highest turns w r = take_law (whole_run r)

@@ -1,6 +1,7 @@
 -- The foremost version of a record within a limit: what the pick of the row of cells comes to.
-use Rattle.std.proofs.Common.{◌≡◌, ℕ, ◌+◌, ◌*◌, ◌/◌, ◌%◌, ◌<◌, ◌≤◌, true, cond, eqb, ◌⊎◌, List, length, get_or, Some, None, Option, sym, refl, ap, ◌∙◌, subst, inl, inr, ⊎_elim, zero-add, arith}
-use Rattle.std.proofs.lemmas.Bool.{eq-eqb, eqb-true, cases_lt, lt-ltb, leb-true, le-leb}
+use Rattle.std.proofs.Common.{◌≡◌, ℕ, ◌+◌, ◌*◌, ◌/◌, ◌%◌, ◌<◌, ◌≤◌, true, eqb, ◌⊎◌, List, length, get_or, Some, None, Option, sym, refl, ap, ◌∙◌, subst, inl, inr, ⊎_elim, zero-add, arith}
+use Rattle.std.proofs.lemmas.Bool.{eq-eqb, eqb-true, cases_lt, lt-ltb, leb-true, le-leb, cond_both}
+use Rattle.std.proofs.lemmas.Option.{cond_some}
 use Rattle.std.proofs.lemmas.List.FromFn.{length-map-range_with_len, get_or-map-range_with_len}
 use Rattle.order.specs.Kinds.{PlaceBefore, CandidateBefore}
 use Rattle.order.specs.declared.candidate.Candidate.{Candidate}
@@ -12,7 +13,7 @@ use Rattle.model.specs.declared.slot.Slot.{Slot}
 use Rattle.model.specs.declared.slot.Hold.TheVariants.{OnMaster, OnSlot}
 use Rattle.model.specs.Worlds.{World, master_entry}
 use Rattle.model.specs.Versions.{place_of, within, if_within, stage_shows, slot_shows, cell, row, foremost, Seen, body_in, seen_at, seen_as}
-use Rattle.laws.proofs.Basics.{none_some, some_path, bool_case, HasVersion, age_of}
+use Rattle.laws.proofs.Basics.{option_case, HasVersion, age_of}
 use Rattle.laws.proofs.Invariant.{SlotWith}
 use Rattle.order.specs.Order.{In as InRow}
 use Rattle.order.specs.declared.candidate.Place.TheVariants as place
@@ -26,14 +27,9 @@ of_master w r = record { hold = OnMaster r; entry = master_entry w r }
 
 -- c is the version of r in a slot, and above the master's
 pub record InSlot (w : World) (r : ℕ) (limit : Option ℕ) (c : Seen) : Type 0 where
-  pub o : ℕ
-  pub p : ℕ
-  pub sl : Slot
-  pub there : w.slot o p ≡ Some sl
-  pub number : sl.number ≡ r
-  pub version : HasVersion sl.stage c.entry.version
-  pub hold : c.hold ≡ OnSlot o p
-  pub body : c.entry.body ≡ sl.body
+  pub at : SlotWith w.slot r c.entry.version
+  pub hold : c.hold ≡ OnSlot at.o at.p
+  pub body : c.entry.body ≡ at.sl.body
   pub low : Within limit c.entry.version
   pub over : (w.master r).version < c.entry.version
 
@@ -53,46 +49,36 @@ low_within : (limit : Option ℕ) (v : ℕ) → Within limit v → within limit 
 low_within None v h = refl
 low_within (Some s) v h = le-leb v s h
 
-record ShowsVersion (limit : Option ℕ) (p : Place) (v : ℕ) (x : Candidate) : Type 0 where
-  version : v ≡ x.version
-  low : Within limit x.version
-  place : x.place ≡ p
-
-if_shows : (limit : Option ℕ) (v : ℕ) (p : Place) (x : Candidate) → if_within limit v p ≡ Some x → ShowsVersion limit p v x
-if_shows limit v p x =
-    bool_case (λ b. cond b (Some (record { version = v; place = p })) None ≡ Some x → ShowsVersion limit p v x) (within limit v)
-    (λ t e. (let q = some_path _ x e in
-    let ve : v ≡ x.version = ap (λ (y : Candidate). y.version) q in
-    record { version = ve; low = subst (Within limit) ve (within_low limit v t); place = sym (ap (λ (y : Candidate). y.place) q) }))
-    (λ _ e. none_some x e)
-
 record ShowsSlot (r : ℕ) (limit : Option ℕ) (p : Place) (o : Option Slot) (x : Candidate) : Type 0 where
   sl : Slot
   there : o ≡ Some sl
   number : sl.number ≡ r
-  version : HasVersion sl.stage x.version
+  version : HasVersion x.version sl.stage
   low : Within limit x.version
   place : x.place ≡ p
 
 shows : (r : ℕ) (limit : Option ℕ) (p : Place) (o : Option Slot) (x : Candidate) → slot_shows r limit p o ≡ Some x → ShowsSlot r limit p o x
-shows r limit p None x e = none_some x e
+shows r limit p None x e = cc
 shows r limit p (Some sl) x e₀ =
-    bool_case (λ b. cond b (stage_shows limit p sl.stage) None ≡ Some x → ShowsSlot r limit p (Some sl) x) (eqb sl.number r)
-    (λ t e. at_stage sl.stage refl (eqb-true sl.number r t) e) (λ _ e. none_some x e) e₀
+    cond_both (eqb sl.number r) (stage_shows limit p sl.stage) None (λ o. o ≡ Some x → ShowsSlot r limit p (Some sl) x)
+    (λ t e. at_stage sl.stage refl (eqb-true sl.number r t) e) (λ _ e. cc) e₀
   where
-    by : (v : ℕ) → HasVersion sl.stage v → sl.number ≡ r → ShowsVersion limit p v x → ShowsSlot r limit p (Some sl) x
-    by v hv f u = record { sl = sl; there = refl; number = f; version = subst (HasVersion sl.stage) u.version hv; low = u.low; place = u.place }
+    at_version : (v : ℕ) → HasVersion v sl.stage → sl.number ≡ r → if_within limit v p ≡ Some x → ShowsSlot r limit p (Some sl) x
+    at_version v has f e =
+        let c = cond_some (within limit v) (record { version = v; place = p }) x e in
+        let same : v ≡ x.version = ap (λ (y : Candidate). y.version) c.1 in
+        record { sl = sl; there = refl; number = f; version = subst (λ y. HasVersion y sl.stage) same has; low = subst (Within limit) same (within_low limit v c.0); place = sym (ap (λ (y : Candidate). y.place) c.1) }
 
     at_stage : (st : Stage) → sl.stage ≡ st → sl.number ≡ r → stage_shows limit p st ≡ Some x → ShowsSlot r limit p (Some sl) x
-    at_stage Draft q f e = none_some x e
-    at_stage (Live v) q f e = by v (subst (λ y. HasVersion y v) (sym q) refl) f (if_shows limit v p x e)
-    at_stage (Retired v t) q f e = by v (subst (λ y. HasVersion y v) (sym q) refl) f (if_shows limit v p x e)
+    at_stage Draft q f e = cc
+    at_stage (Live v) q f e = at_version v (subst (HasVersion v) (sym q) refl) f e
+    at_stage (Retired v t) q f e = at_version v (subst (HasVersion v) (sym q) refl) f e
 
-shown_is : (r : ℕ) (limit : Option ℕ) (p : Place) (sl : Slot) (v : ℕ) → sl.number ≡ r → HasVersion sl.stage v → Within limit v
+shown_is : (r : ℕ) (limit : Option ℕ) (p : Place) (sl : Slot) (v : ℕ) → sl.number ≡ r → HasVersion v sl.stage → Within limit v
     → slot_shows r limit p (Some sl) ≡ Some (record { version = v; place = p })
 shown_is r limit p sl v f hv le = rw (eq-eqb sl.number r f) (go sl.stage hv)
   where
-    go : (st : Stage) → HasVersion st v → stage_shows limit p st ≡ Some (record { version = v; place = p })
+    go : (st : Stage) → HasVersion v st → stage_shows limit p st ≡ Some (record { version = v; place = p })
     go Draft h = absurd h
     go (Live x) h = rw (h, low_within limit v le) refl
     go (Retired x t) h = rw (h, low_within limit v le) refl
@@ -143,11 +129,11 @@ module _ (w : World) (r : ℕ) (limit : Option ℕ) (master_low : Within limit (
         let fits = bounded c.o c.p c.sl c.there in
         let age = age_of (w.oldest c.o) c.p fits.1 in
         let k = c.o * 8 + age.0 in
-        let e₁ : k / 8 ≡ c.o = omega (arith, age.1) in
-        let e₂ : k % 8 ≡ age.0 = omega (arith, age.1) in
-        let lt : k < 64 = omega (arith, age.1, fits.0) in
-        let e₃ : place_of (w.oldest (k / 8)) (k % 8) ≡ c.p = ap (λ y. place_of (w.oldest y) (k % 8)) e₁ ∙ ap (λ y. place_of (w.oldest c.o) y) e₂ ∙ age.2 in
-        let there : w.slot (k / 8) (place_of (w.oldest (k / 8)) (k % 8)) ≡ Some c.sl = ap (λ y. w.slot y (place_of (w.oldest (k / 8)) (k % 8))) e₁ ∙ ap (w.slot c.o) e₃ ∙ c.there in
+        let e₁ : k / 8 ≡ c.o = omega arith in
+        let e₂ : k % 8 ≡ age.0 = omega arith in
+        let lt : k < 64 = omega arith in
+        let e₃ : place_of (w.oldest (k / 8)) (k % 8) ≡ c.p = cc in
+        let there : w.slot (k / 8) (place_of (w.oldest (k / 8)) (k % 8)) ≡ Some c.sl = cc in
         no_newer k (record { version = v; place = place.Slot (k / 8) (k % 8) }) (omega arith)
         (rw (lt-ltb k 64 lt, there) (shown_is r limit (place.Slot (k / 8) (k % 8)) c.sl v c.number c.version low))
 
@@ -158,21 +144,14 @@ module _ (w : World) (r : ℕ) (limit : Option ℕ) (master_low : Within limit (
 
     at_slot : (k : ℕ) → ShowsSlot r limit (place.Slot (k / 8) (k % 8)) (w.slot (k / 8) (place_of (w.oldest (k / 8)) (k % 8))) x → Highest w r limit (seen_as w r (Some x))
     at_slot k sh =
-        let o = k / 8 in
-        let p = place_of (w.oldest o) (k % 8) in
         subst (λ y. Highest w r limit (seen_at w r x.version y)) (sym sh.place)
         (record {
           one = inr (record {
-            o = o;
-            p = p;
-            sl = sh.sl;
-            there = sh.there;
-            number = sh.number;
-            version = sh.version;
+            at = record { o = k / 8; p = place_of (w.oldest (k / 8)) (k % 8); sl = sh.sl; there = sh.there; number = sh.number; version = sh.version };
             hold = refl;
             body = ap body_in sh.there;
             low = sh.low;
-            over = slot_above o (k % 8) sh.place;
+            over = slot_above (k / 8) (k % 8) sh.place;
           });
           over_master = above_master;
           over_slots = above_slots;
@@ -181,19 +160,15 @@ module _ (w : World) (r : ℕ) (limit : Option ℕ) (master_low : Within limit (
     in_cell : (k : ℕ) → k < 65 → cell_at k ≡ Some x → Highest w r limit (seen_as w r (Some x))
     in_cell k lt c =
         ⊎_elim (λ l. at_slot k (shows r limit (place.Slot (k / 8) (k % 8)) (w.slot (k / 8) (place_of (w.oldest (k / 8)) (k % 8))) x (rw (lt-ltb k 64 l) at c)))
-        (λ ge. at_master (let last : k ≡ 64 = omega arith in some_path x mine (sym c ∙ ap cell_at last ∙ cell_master))) (cases_lt k 64)
+        (λ ge. at_master (let last : k ≡ 64 = omega arith in cc cell_master)) (cases_lt k 64)
 
     found : Highest w r limit (seen_as w r (Some x))
     unfolding foremost
-    found = let i = candidate_member line x e in let lt : i.0 < 65 = omega (arith, long, i.1) in in_cell i.0 lt (sym (reads i.0 lt) ∙ i.2)
+    found = let i = candidate_member line x e in let lt : i.0 < 65 = omega (arith, long) in in_cell i.0 lt (sym (reads i.0 lt) ∙ i.2)
 
   never_none : foremost w.slot w.oldest w.master r limit ≡ None → ⊥
   unfolding foremost
   never_none e = candidate_none line e mine (stands 64 mine (omega arith) cell_master)
 
   pub look : Highest w r limit (seen_as w r (foremost w.slot w.oldest w.master r limit))
-  look = go (foremost w.slot w.oldest w.master r limit) refl
-    where
-      go : (b : Option Candidate) → foremost w.slot w.oldest w.master r limit ≡ b → Highest w r limit (seen_as w r b)
-      go None e = absurd (never_none e)
-      go (Some x) e = found x e
+  look = option_case (λ o. Highest w r limit (seen_as w r o)) (foremost w.slot w.oldest w.master r limit) (λ e. absurd (never_none e)) (λ x e. found x e)
