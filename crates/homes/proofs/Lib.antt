@@ -1,2 +1,3 @@
-pub mod Overwrites
+pub mod Records
 pub mod Joins
+pub mod OneWrites

@@ -42,29 +42,28 @@ impl<H: Home> Home for Allowance<H> {
         self.below.count()
     }
 
+    // The trait's clauses stand here again, since a method with clauses of its own has no others.
     fn read(&mut self, number: u16, place: &mut [u8; 16]) -> Result<(), Fault>
-        ensures said { result ≡ answer (read_fault (allowing self.old.writes_left (H.Home.meaning self.old.below)) number) }
-        ensures got { place.new ≡ place_after (allowing self.old.writes_left (H.Home.meaning self.old.below)) number place.old }
-        ensures left { allowing self.new.writes_left (H.Home.meaning self.new.below) ≡ allowing self.old.writes_left (H.Home.meaning self.old.below) }
+        ensures said { result ≡ answer (read_fault (⟦<Self as Home>⟧.meaning self.old) number) }
+        ensures got { place.new ≡ place_after (⟦<Self as Home>⟧.meaning self.old) number place.old }
+        ensures left { ⟦<Self as Home>⟧.meaning self.new ≡ ⟦<Self as Home>⟧.meaning self.old }
         ensures writes { self.new.writes_left ≡ self.old.writes_left }
     {
         self.inside(number)?;
-        passed_up(self.below.read(number, place))?;
-        Ok(())
+        passed_up(self.below.read(number, place))
     }
 
     fn write(&mut self, number: u16, body: [u8; 16]) -> Result<(), Fault>
-        ensures said { result ≡ answer (write_fault (allowing self.old.writes_left (H.Home.meaning self.old.below)) number) }
-        ensures left { allowing self.new.writes_left (H.Home.meaning self.new.below) ≡ after_write (allowing self.old.writes_left (H.Home.meaning self.old.below)) number body }
+        ensures said { result ≡ answer (write_fault (⟦<Self as Home>⟧.meaning self.old) number) }
+        ensures left { ⟦<Self as Home>⟧.meaning self.new ≡ after_write (⟦<Self as Home>⟧.meaning self.old) number body }
         ensures writes { self.new.writes_left ≡ writes_after result self.old.writes_left }
     {
         self.inside(number)?;
-        let Allowance { below, writes_left } = self;
-        if *writes_left == 0 {
+        if self.writes_left == 0 {
             return Err(Fault::new(Cause::AllowanceSpent, number));
         }
-        passed_up(below.write(number, body))?;
-        *writes_left -= 1;
+        passed_up(self.below.write(number, body))?;
+        self.writes_left -= 1;
         Ok(())
     }
 }

@@ -3,6 +3,5 @@
 
 pub mod allowance;
 pub mod plain;
-mod records;
 pub mod side_by_side;
 pub mod write_once;

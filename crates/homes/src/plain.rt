@@ -5,7 +5,6 @@ ghost use Rattle.interfaces.specs.Homes.{read_fault, place_after, write_fault, a
 ghost use Rattle.homes.specs.Bodies.{bodies_of};
 ghost use Rattle.homes.specs.Plains.{plain, plain_sound, bytes_after};
 
-use crate::records;
 use interfaces::fault::Fault;
 use interfaces::home::Home;
 
@@ -24,23 +23,26 @@ impl<'a> Plain<'a> {
 
     // What a record that is there holds. It is a method of its own since the prover loses what a lent row holds where it is
     // lent on within a method that takes `&mut self`.
+    #[tactic(auto, using(crate::proofs::Records::records))]
     fn load(&self, number: u16) -> [u8; 16]
         requires { number < length (bodies_of self.now.bytes.now) }
         ensures { result ≡ slice_index_or (bodies_of self.now.bytes.now) number [] }
     {
-        records::load(self.bytes, number)
+        self.bytes.as_chunks::<16>().0[number as usize]
     }
 }
 
+#[tactic(auto, using(crate::proofs::Records::records))]
 impl<'a> Home for Plain<'a> {
     ghost meaning = { λ s. plain s.bytes.now };
 
     ghost sound = { λ s. plain_sound s.bytes.now };
 
     fn count(&self) -> u16 {
-        records::count_in(self.bytes)
+        u16::try_from(self.bytes.len() / 16).unwrap_or(u16::MAX)
     }
 
+    // The trait's clauses stand here again, since a method with clauses of its own has no others.
     fn read(&mut self, number: u16, place: &mut [u8; 16]) -> Result<(), Fault>
         ensures said { result ≡ answer (read_fault (plain self.old.bytes.now) number) }
         ensures got { place.new ≡ place_after (plain self.old.bytes.now) number place.old }
@@ -60,7 +62,8 @@ impl<'a> Home for Plain<'a> {
         ensures lent { self.new.bytes.ghost_name ≡ self.old.bytes.ghost_name }
     {
         self.inside(number)?;
-        records::store(self.bytes, number, &body);
+        let start = number as usize * 16;
+        self.bytes[start..start + 16].copy_from_slice(&body);
         Ok(())
     }
 }
