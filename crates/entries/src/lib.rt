@@ -91,11 +91,7 @@ pub fn spell_body(body: &[u8; 16]) -> [u8; 32]
     ensures { result ≡ spelled body.now }
 {
     let mut text = [0; 32];
-    for k in 0..16 {
-        let (high, low) = digits_of(body[k]);
-        text[2 * k] = high;
-        text[2 * k + 1] = low;
-    }
+    text.copy_from_slice(body.map(digits_of).as_flattened());
     text
 }
 

@@ -1,12 +1,15 @@
-use Rattle.std.proofs.Common.{◌+◌, ◌*◌, set, sym, ap, ◌∙◌, arith, length-set}
-use Rattle.entries.proofs.Spells.{spelled_more, spelled_all}
+use Rattle.std.proofs.Common.{◌≡◌, [], get_or, map, ap, ◌∙◌, arith, rules, sym}
+use Rattle.std.specs.List.{flat_map}
+use Rattle.std.proofs.lemmas.List.{ext_get_or, get_or-map, length-map}
+use Rattle.entries.proofs.Spells.{digits, spelled_is}
 use Rattle.entries.proofs.spell_body.Goals as goal
 
-pub loop-k-preserved : goal.loop-k-preserved
-loop-k-preserved c = (
-  spelled_more c.loop-k.text c.args.body.now c.loop-k.k _ _ (omega arith) (omega arith) (ap (λ p. p.0) c.digits_of-high.ensures) (ap (λ p. p.1) c.digits_of-high.ensures) ∙ c.loop-k.invariant.0,
-  length-set (set c.loop-k.text (2 * c.loop-k.k) _) (2 * c.loop-k.k + 1) _ ∙ length-set c.loop-k.text (2 * c.loop-k.k) _ ∙ c.loop-k.invariant.1,
-)
-
 pub returns : goal.returns
-returns c = sym (spelled_all c.loop-k.text c.args.body.now c.loop-k.k (omega arith) (omega arith)) ∙ c.loop-k.invariant.0
+returns c =
+    let long = c.map.ensures.items.long in
+    let same : c.map.result ≡ map digits c.args.body.now =
+        ext_get_or [] _ _ (omega (arith, length-map c.args.body.now digits)) (λ i h.
+            let call = c.map.ensures.items.at i 0 [] (omega arith) in
+            let one : get_or c.map.result i [] ≡ digits (get_or c.args.body.now i 0) = search rules in
+            one ∙ sym (get_or-map digits c.args.body.now i 0 [] (omega arith))) in
+    c.copy_from_slice.ensures.after ∙ c.as_flattened.ensures.value ∙ ap (flat_map (λ x. x)) same ∙ spelled_is c.args.body.now
