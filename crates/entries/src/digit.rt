@@ -10,9 +10,7 @@ fn hex_value(c: u8) -> Result<u8, BadLine>
     ensures is { result ≡ unless (is_hexadecimal c) BadLine.NotHexadecimal (Ok (hex_value c)) }
     ensures small { IfOk result (λ value. value < 16) }
 {
-    let value = char::from(c)
-        .to_digit(16)
-        .ok_or(BadLine::NotHexadecimal)?;
+    let value = char::from(c).to_digit(16).ok_or(BadLine::NotHexadecimal)?;
     Ok(value as u8)
 }
 

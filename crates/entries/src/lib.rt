@@ -18,7 +18,7 @@ mod line;
 mod tests;
 
 // What one line loads.
-#[derive(Clone, Copy, Debug)]
+#[derive(Clone, Copy, PartialEq, Eq, Debug)]
 pub struct Entry {
     pub record: u16,
     pub body: [u8; 16],
@@ -30,10 +30,9 @@ impl fmt::Display for Entry {
 
     fn fmt<W: fmt::Write>(&self, f: &mut fmt::Formatter<W>) -> fmt::Result {
         let record = self.record;
-        match from_utf8(&spell_body(&self.body)) {
-            Ok(digits) => write!(f, "{record} {digits}"),
-            Err(_) => Err(fmt::Error),
-        }
+        let body = spell_body(&self.body);
+        let digits = from_utf8(&body).map_err(|_| fmt::Error)?;
+        write!(f, "{record} {digits}")
     }
 }
 
@@ -56,22 +55,13 @@ impl fmt::Display for BadLine {
     ghost output = { λ bad. Some (message bad) };
 
     fn fmt<W: fmt::Write>(&self, f: &mut fmt::Formatter<W>) -> fmt::Result {
-        f.write_str(self.words())
-    }
-}
-
-impl BadLine {
-    // The message for each reason.
-    fn words(&self) -> &'static str
-        ensures { result.now ≡ message self.now }
-    {
-        match self {
+        f.write_str(match self {
             BadLine::NoRecord => "no record number at the start of the line",
             BadLine::RecordTooLarge => "record number above 65535",
             BadLine::NoBlank => "no blank after the record number",
             BadLine::WrongLength => "not exactly 32 digits after the blank",
             BadLine::NotHexadecimal => "not a hexadecimal digit among the 32",
-        }
+        })
     }
 }
 
@@ -96,8 +86,6 @@ pub fn spell_body(body: &[u8; 16]) -> [u8; 32]
 }
 
 // The line that is shown of an entry gives that entry.
-pub fn shown_reads_back() -> u8
+pub fn shown_reads_back()
     ensures { ShownReadsBack }
-{
-    0
-}
+{}
