@@ -6,11 +6,11 @@ use Rattle.std.specs.Array.{AllZipBelow}
 use Rattle.std.specs.Fn.{Called}
 use Rattle.std.specs.Result.{IfOk, IfErr}
 use Rattle.std.specs.Simd.{first_chunks}
-use Rattle.std.proofs.lemmas.Bool.{and_parts, and_from, and_right, cond-true, cond-false}
+use Rattle.std.proofs.lemmas.Bool.{and_parts, and_from, and_right, cond-true, cond-false, eq-eqb, lt-ltb}
 use Rattle.entries.specs.declared.BadLine.{BadLine}
 use Rattle.entries.specs.declared.BadLine.TheVariants.{NotHexadecimal}
 use Rattle.entries.specs.Digits.{is_hexadecimal, Hexadecimal, hex_value, pair_values}
-use Rattle.entries.specs.Entries.{all_hexadecimal, unless}
+use Rattle.entries.specs.Entries.{all_hexadecimal, unless, body_of}
 
 pub all_from_test : (cs : List ℕ) → all_hexadecimal cs ≡ true → AllByRecursion Hexadecimal cs
 all_from_test [] e = tt
@@ -70,3 +70,6 @@ module _ {F : Type 0} (g : Mut F (List ℕ × Unit {0}) (Result ℕ BadLine)) (g
       let here : IsAmong (first_chunks 2 k ds) x = subst (λ ps. IsAmong ps x) is among in
       let none = no_byte bad k ds x long here.0 here.1.0 here.1.1 (gives p x (Err bad) q call) in
       (λ i. Err (none.1 i)) ∙ sym (cond-false _ _ _ none.0)
+
+pub body_of_digits : (ds : List ℕ) → length ds ≡ 32 → body_of (32 ∷ ds) ≡ unless (all_hexadecimal ds) NotHexadecimal (Ok (pair_values ds))
+body_of_digits ds long = cond-true _ _ _ (and_from _ _ (lt-ltb 0 (length (32 ∷ ds)) (omega arith)) (eq-eqb 32 32 refl)) ∙ cond-true _ _ _ (eq-eqb (length ds) 32 long)

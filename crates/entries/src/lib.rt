@@ -8,7 +8,7 @@ ghost use Rattle.entries.specs.Messages.{message};
 ghost use Rattle.entries.specs.Spelling.{line_of, ReadsExactly, ShownReadsBack};
 
 use digit::digits_of;
-use line::{read_body, read_record, split_digits, without_return};
+use line::{read_body, read_record, without_return};
 use std::fmt;
 use std::str::from_utf8;
 
@@ -70,8 +70,7 @@ pub fn read_entry(line: &[u8]) -> Result<Entry, BadLine>
     ensures said { result ≡ entry_of line.now }
     ensures exactly { ReadsExactly line.now result }
 {
-    let (digits, rest) = split_digits(without_return(line));
-    let record = read_record(digits)?;
+    let (record, rest) = read_record(without_return(line))?;
     let body = read_body(rest)?;
     Ok(Entry { record, body })
 }

@@ -1,5 +1,5 @@
 // The parts of a line: its record number, and the digits of its body.
-ghost use Rattle.std.specs.Prelude.{◌≡◌, ◌==◌, length, if◌then◌else◌, Some, None, nat_le};
+ghost use Rattle.std.specs.Prelude.{◌≡◌, if◌then◌else◌, Some, None, nat_le, MatchResult, IfOk};
 ghost use Rattle.std.specs.List.{AllByRecursion, prefix_len};
 ghost use Rattle.entries.specs.Digits.{is_decimal, Decimal, number as number_in, pair_values};
 ghost use Rattle.entries.specs.Entries.{without_return as trimmed, leading, following, all_hexadecimal, unless, record_of, body_of};
@@ -25,7 +25,7 @@ fn count_digits(text: &[u8]) -> usize
 }
 
 // The decimal digits that the text begins with, and what follows them.
-pub(crate) fn split_digits(text: &[u8]) -> (&[u8], &[u8])
+fn split_digits(text: &[u8]) -> (&[u8], &[u8])
     ensures digits { result.0.now ≡ leading text.now }
     ensures decimal { AllByRecursion Decimal result.0.now }
     ensures rest { result.1.now ≡ following text.now }
@@ -48,34 +48,38 @@ fn number_of(digits: &[u8]) -> Option<u16>
     Some(number)
 }
 
-// The record number that the leading digits of a line write.
-pub(crate) fn read_record(digits: &[u8]) -> Result<u16, BadLine>
-    requires { AllByRecursion Decimal digits.now }
-    ensures { result ≡ record_of digits.now }
+// The record number that the text begins with, and what follows its digits.
+pub(crate) fn read_record(text: &[u8]) -> Result<(u16, &[u8]), BadLine>
+    ensures number { MatchResult result (λ read. Ok read.0 ≡ record_of (leading text.now)) (λ bad. Err bad ≡ record_of (leading text.now)) }
+    ensures rest { IfOk result (λ read. read.1.now ≡ following text.now) }
 {
+    let (digits, rest) = split_digits(text);
     if digits.is_empty() {
         return Err(BadLine::NoRecord);
     }
-    number_of(digits).ok_or(BadLine::RecordTooLarge)
+    let record = number_of(digits).ok_or(BadLine::RecordTooLarge)?;
+    Ok((record, rest))
 }
 
 // The sixteen bytes that 32 hexadecimal digits write.
-fn bytes_of(digits: &[u8]) -> Result<[u8; 16], BadLine>
-    ensures { result ≡ unless (length digits.now == 32) BadLine.WrongLength (unless (all_hexadecimal digits.now) BadLine.NotHexadecimal (Ok (pair_values digits.now))) }
+fn bytes_of(digits: &[u8; 32]) -> Result<[u8; 16], BadLine>
+    ensures { result ≡ unless (all_hexadecimal digits.now) BadLine.NotHexadecimal (Ok (pair_values digits.now)) }
 {
-    let (pairs, []) = digits.as_chunks() else {
-        return Err(BadLine::WrongLength);
-    };
-    let pairs: &[[u8; 2]; 16] = pairs.as_array().ok_or(BadLine::WrongLength)?;
+    let (pairs, _) = digits.as_chunks();
+    let pairs: &[[u8; 2]; 16] = pairs.as_array().unwrap();
     pairs.try_map(byte_of)
 }
 
 // The body that follows the record number.
+#[tactic(auto, using(crate::proofs::Hexes::body_of_digits))]
 pub(crate) fn read_body(rest: &[u8]) -> Result<[u8; 16], BadLine>
     ensures { result ≡ body_of rest.now }
 {
-    let [b' ', digits @ ..] = rest else {
+    let Some((b' ', digits)) = rest.split_first() else {
         return Err(BadLine::NoBlank);
+    };
+    let Some(digits) = digits.as_array() else {
+        return Err(BadLine::WrongLength);
     };
     bytes_of(digits)
 }
