@@ -3,7 +3,7 @@ use Rattle.std.proofs.Common.{◌≡◌, ℕ, ◌+◌, true, false, cond, List, 
 use Rattle.std.specs.List.{AllByRecursion, prefix_len, take_while}
 use Rattle.std.proofs.lemmas.Bool.{cond_both}
 use Rattle.std.proofs.lemmas.List.{take-append-drop}
-use Rattle.std.proofs.lemmas.List.Sums.{take_while-cons}
+use Rattle.std.proofs.lemmas.List.Sums.{prefix_len-le-length, take_while-cons}
 use Rattle.std.proofs.Math.Numerals.{one-add}
 use Rattle.entries.specs.Digits.{is_decimal, Decimal}
 use Rattle.entries.specs.Entries.{leading, following}
@@ -23,3 +23,6 @@ drop_is (c ∷ cs) =
 
 pub leading_and_following : (xs : List ℕ) → xs ≡ leading xs ++ following xs
 leading_and_following xs = sym (take-append-drop (prefix_len is_decimal xs) xs) ∙ (λ i. take_is xs i ++ drop_is xs i)
+
+-- what splitting behind the leading digits gives
+pub ruleset leads = (take_is, drop_is, leading_decimal, prefix_len-le-length)

@@ -66,6 +66,7 @@ impl fmt::Display for BadLine {
 }
 
 // The entry that a line gives, as `7 00112233445566778899AABBCCDDEEFF`.
+#[tactic(auto, using(crate::proofs::Exactly::reads_exactly))]
 pub fn read_entry(line: &[u8]) -> Result<Entry, BadLine>
     ensures said { result ≡ entry_of line.now }
     ensures exactly { ReadsExactly line.now result }

@@ -25,6 +25,7 @@ fn count_digits(text: &[u8]) -> usize
 }
 
 // The decimal digits that the text begins with, and what follows them.
+#[tactic(auto, using(crate::proofs::Leads::leads))]
 fn split_digits(text: &[u8]) -> (&[u8], &[u8])
     ensures digits { result.0.now ≡ leading text.now }
     ensures decimal { AllByRecursion Decimal result.0.now }
@@ -78,8 +79,6 @@ pub(crate) fn read_body(rest: &[u8]) -> Result<[u8; 16], BadLine>
     let Some((b' ', digits)) = rest.split_first() else {
         return Err(BadLine::NoBlank);
     };
-    let Some(digits) = digits.as_array() else {
-        return Err(BadLine::WrongLength);
-    };
+    let digits = digits.as_array().ok_or(BadLine::WrongLength)?;
     bytes_of(digits)
 }
