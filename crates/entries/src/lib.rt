@@ -86,6 +86,7 @@ pub fn spell_body(body: &[u8; 16]) -> [u8; 32]
 }
 
 // The line that is shown of an entry gives that entry.
+#[tactic(auto, using(crate::proofs::ReadsBack::shown_reads_back))]
 pub fn shown_reads_back()
     ensures { ShownReadsBack }
 {}

@@ -24,16 +24,6 @@ fn count_digits(text: &[u8]) -> usize
     text.iter().take_while(|c| c.is_ascii_digit()).count()
 }
 
-// The decimal digits that the text begins with, and what follows them.
-#[tactic(auto, using(crate::proofs::Leads::leads))]
-fn split_digits(text: &[u8]) -> (&[u8], &[u8])
-    ensures digits { result.0.now ≡ leading text.now }
-    ensures decimal { AllByRecursion Decimal result.0.now }
-    ensures rest { result.1.now ≡ following text.now }
-{
-    text.split_at(count_digits(text))
-}
-
 // The number that decimal digits write, where it is a record number.
 #[tactic(auto, using(crate::proofs::Numbers::next_le))]
 fn number_of(digits: &[u8]) -> Option<u16>
@@ -50,11 +40,12 @@ fn number_of(digits: &[u8]) -> Option<u16>
 }
 
 // The record number that the text begins with, and what follows its digits.
+#[tactic(auto, using(crate::proofs::Leads::leads))]
 pub(crate) fn read_record(text: &[u8]) -> Result<(u16, &[u8]), BadLine>
     ensures number { MatchResult result (λ read. Ok read.0 ≡ record_of (leading text.now)) (λ bad. Err bad ≡ record_of (leading text.now)) }
     ensures rest { IfOk result (λ read. read.1.now ≡ following text.now) }
 {
-    let (digits, rest) = split_digits(text);
+    let (digits, rest) = text.split_at(count_digits(text));
     if digits.is_empty() {
         return Err(BadLine::NoRecord);
     }
