@@ -80,11 +80,11 @@ entry_from_spells line e s =
 
 passed : {A : Type 0} (test : Bool) (bad : BadLine) (more : Result A BadLine) (x : A) → unless test bad more ≡ Ok x → (test ≡ true) × (more ≡ Ok x)
 passed true bad more x e = (refl, e)
-passed false bad more x e = let z : ◌≡◌ {A = ℕ} 0 1 = cc in absurd (omega arith)
+passed false bad more x e = cc
 
 both_from : (r : Result ℕ BadLine) (b : Result (List ℕ) BadLine) (e : Entry) → entry_from r b ≡ Ok e → (r ≡ Ok e.«record») × (b ≡ Ok e.body)
-both_from (Err bad) b e h = let z : ◌≡◌ {A = ℕ} 0 1 = cc in absurd (omega arith)
-both_from (Ok n) (Err bad) e h = let z : ◌≡◌ {A = ℕ} 0 1 = cc in absurd (omega arith)
+both_from (Err bad) b e h = cc
+both_from (Ok n) (Err bad) e h = cc
 both_from (Ok n) (Ok bytes) e h =
     let whole : Entry = record { «record» = n; body = bytes } in
     let same : whole ≡ e = cc in
@@ -108,7 +108,7 @@ pub record Bodies (rest : List ℕ) (bytes : List ℕ) : Type 0 where
   pub is : bytes ≡ pair_values (drop 1 rest)
 
 blank_first : (rest : List ℕ) → begins_with 32 rest ≡ true → rest ≡ 32 ∷ drop 1 rest
-blank_first [] e = let z : ◌≡◌ {A = ℕ} 0 1 = cc in absurd (omega arith)
+blank_first [] e = cc
 blank_first (c ∷ cs) e = ap (λ x. x ∷ cs) (eqb-true c 32 (and_parts (ltb 0 (length (c ∷ cs))) (eqb c 32) e).1)
 
 bodies : (rest bytes : List ℕ) → body_of rest ≡ Ok bytes → Bodies rest bytes

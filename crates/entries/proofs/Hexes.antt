@@ -1,5 +1,5 @@
 -- Hexadecimal digits, and the bytes that pairs of them write.
-use Rattle.std.proofs.Common.{◌≡◌, ℕ, zero, suc, ◌+◌, ◌*◌, ◌<◌, Bool, true, false, ◌&&◌, cond, List, [], ◌∷◌, length, get_or, Option, Some, None, Ok, Err, Result, if◌then◌else◌, sym, subst, refl, ap, ◌∙◌, arith}
+use Rattle.std.proofs.Common.{◌≡◌, ℕ, zero, suc, ◌+◌, ◌*◌, ◌<◌, Bool, true, false, ◌&&◌, List, [], ◌∷◌, length, get_or, Ok, Err, Result, sym, subst, refl, ap, ◌∙◌, arith}
 use Rattle.std.specs.List.{AllByRecursion, AllZip, IsAmong}
 use denote.Param.Members.{Mut}
 use Rattle.std.specs.Array.{AllZipBelow}
