@@ -29,10 +29,9 @@ impl fmt::Display for Entry {
     ghost output = { λ e. Some (line_of e) };
 
     fn fmt<W: fmt::Write>(&self, f: &mut fmt::Formatter<W>) -> fmt::Result {
-        let record = self.record;
         let body = spell_body(&self.body);
         let digits = from_utf8(&body).map_err(|_| fmt::Error)?;
-        write!(f, "{record} {digits}")
+        write!(f, "{} {digits}", self.record)
     }
 }
 
