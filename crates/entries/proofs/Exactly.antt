@@ -1,6 +1,7 @@
 -- The lines that give an entry are those that spell it.
 use Rattle.std.proofs.Common.{◌≡◌, ℕ, ◌+◌, ◌-◌, ◌<◌, ◌≤◌, Bool, true, false, eqb, ltb, ◌⊎◌, List, [], ◌∷◌, ◌++◌, length, get_or, take, drop, Ok, Err, Result, sym, refl, ap, ◌∙◌, inl, inr, append_assoc, arith, length-append}
 use Rattle.std.specs.List.{AllByRecursion}
+use Rattle.std.proofs.lemmas.Grind.{common_steps}
 use Rattle.std.proofs.ByRecursion.{All-get_or}
 use Rattle.std.proofs.lemmas.List.{append-nil, get_or_push, get_or-append_right, length_push, take_all, take_at, take_more}
 use Rattle.std.proofs.lemmas.Bool.{and_from, and_parts, and_right, cases_Bool, cond-true, cond-false, eq-eqb, eqb-true, le-leb, leb-true, lt-ltb, ltb-true, ne_eqb}
@@ -10,7 +11,7 @@ use Rattle.entries.specs.declared.Entry.{Entry}
 use Rattle.entries.specs.Digits.{Decimal, number, Hexadecimal, pair_values}
 use Rattle.entries.specs.Entries.{begins_with, ends_with, without_return, leading, following, unless, record_of, body_of, entry_from, entry_in, entry_of}
 use Rattle.entries.specs.Spelling.{Spells, ReadsExactly}
-use Rattle.entries.proofs.Hexes.{all_from_test, test_from_all}
+use Rattle.entries.proofs.Hexes.{all_from_test, test_from_all, body_of_digits}
 use Rattle.entries.proofs.Leads.{leading_decimal, leading_and_following}
 
 -- from a line that spells an entry to the entry
@@ -27,10 +28,7 @@ record_is : (ds : List ℕ) → 0 < length ds → number ds ≤ 65535 → record
 record_is ds some small = cond-true _ _ _ (lt-ltb 0 (length ds) some) ∙ cond-true _ _ _ (le-leb (number ds) 65535 small)
 
 body_is : (hs : List ℕ) → length hs ≡ 32 → AllByRecursion Hexadecimal hs → body_of (32 ∷ hs) ≡ Ok (pair_values hs)
-body_is hs long h =
-    cond-true _ _ _ (and_from _ _ (lt-ltb 0 (length (32 ∷ hs)) (omega arith)) (eq-eqb 32 32 refl))
-    ∙ cond-true _ _ _ (eq-eqb (length hs) 32 long)
-    ∙ cond-true _ _ _ (test_from_all hs h)
+body_is hs long h = body_of_digits hs long ∙ cond-true _ _ _ (test_from_all hs h)
 
 pub entry_in_is : (ds hs : List ℕ) → 0 < length ds → AllByRecursion Decimal ds → number ds ≤ 65535 → length hs ≡ 32 → AllByRecursion Hexadecimal hs → entry_in (ds ++ 32 ∷ hs) ≡ Ok (record { «record» = number ds; body = pair_values hs })
 entry_in_is ds hs some decimal small long hex =
@@ -130,12 +128,7 @@ pub record Ends (line : List ℕ) : Type 0 where
   pub ends : (ending ≡ []) ⊎ (ending ≡ 13 ∷ [])
 
 last_cut : (line : List ℕ) (c : ℕ) → 0 < length line → get_or line (length line - 1) 0 ≡ c → line ≡ take (length line - 1) line ++ c ∷ []
-last_cut line c some e =
-    let all : length line ≡ length line - 1 + 1 = omega arith in
-    sym (take_all (length line) line (omega arith))
-    ∙ ap (λ n. take n line) all
-    ∙ take_more line (length line - 1) 0 (omega arith)
-    ∙ ap (λ x. take (length line - 1) line ++ x ∷ []) e
+last_cut line c some e = grind (arith, common_steps)
 
 ends_of : (line : List ℕ) → Ends line
 ends_of line =

@@ -1,9 +1,8 @@
 -- Hexadecimal digits, and the bytes that pairs of them write.
 use Rattle.std.proofs.Common.{◌≡◌, ℕ, zero, suc, ◌+◌, ◌*◌, ◌<◌, Bool, true, false, ◌&&◌, List, [], ◌∷◌, length, get_or, Ok, Err, Result, sym, subst, refl, ap, ◌∙◌, arith}
 use Rattle.std.specs.List.{AllByRecursion, AllZip, IsAmong}
-use denote.Param.Members.{Mut}
 use Rattle.std.specs.Array.{AllZipBelow}
-use Rattle.std.specs.Fn.{Called}
+use Rattle.std.specs.Fn.{Called, Mut}
 use Rattle.std.specs.Result.{IfOk, IfErr}
 use Rattle.std.specs.Simd.{first_chunks}
 use Rattle.std.proofs.lemmas.Bool.{and_parts, and_from, and_right, cond-true, cond-false, eq-eqb, lt-ltb}
@@ -20,7 +19,7 @@ pub test_from_all : (cs : List ℕ) → AllByRecursion Hexadecimal cs → all_he
 test_from_all [] h = refl
 test_from_all (c ∷ cs) h = and_from (is_hexadecimal c) (all_hexadecimal cs) h.0 (test_from_all cs h.1)
 
--- what a pair of digits tells
+-- the byte of a pair of digits, or the refusal
 abbrev pub byte_in : List ℕ → Result ℕ BadLine
 byte_in pair = unless (is_hexadecimal (get_or pair 0 0)) NotHexadecimal (unless (is_hexadecimal (get_or pair 1 0)) NotHexadecimal (Ok (hex_value (get_or pair 0 0) * 16 + hex_value (get_or pair 1 0))))
 
@@ -35,7 +34,7 @@ one_failed true false u v bad e = (refl, cc)
 one_failed false t u v bad e = (refl, cc)
 
 module _ {F : Type 0} (g : Mut F (List ℕ × Unit {0}) (Result ℕ BadLine)) (gives : (p : F) (x : List ℕ) (r : Result ℕ BadLine) (q : F) → Called g p (x, tt) r q → r ≡ byte_in x) where
-  -- each pair gave a byte
+  -- where each pair gave a byte
   bytes_all : (k : ℕ) (ds ys : List ℕ) → length ds ≡ 2 * k → AllZip (λ x y. (p : F) × (q : F) × Called g p (x, tt) (Ok y) q) (first_chunks 2 k ds) ys → (all_hexadecimal ds ≡ true) × (pair_values ds ≡ ys)
   bytes_all zero [] [] e h = (refl, refl)
   bytes_all zero [] (y ∷ ys) e h = absurd h
@@ -48,7 +47,7 @@ module _ {F : Type 0} (g : Mut F (List ℕ × Unit {0}) (Result ℕ BadLine)) (g
       let rest = bytes_all k ds ys (omega arith) more in
       (and_from _ _ one.0 (and_from _ _ one.1 rest.0), λ i. one.2 i ∷ rest.1 i)
 
-  -- a pair gave none
+  -- where a pair gave none
   no_byte : (bad : BadLine) (k : ℕ) (ds x : List ℕ) → length ds ≡ 2 * k → (i : ℕ) → i < length (first_chunks 2 k ds) → x ≡ get_or (first_chunks 2 k ds) i x → Err bad ≡ byte_in x → (all_hexadecimal ds ≡ false) × (bad ≡ NotHexadecimal)
   no_byte bad zero ds x e i h is none = absurd (omega arith)
   no_byte bad (suc k) [] x e i h is none = absurd (omega arith)
@@ -58,18 +57,19 @@ module _ {F : Type 0} (g : Mut F (List ℕ × Unit {0}) (Result ℕ BadLine)) (g
       let rest = no_byte bad k ds x (omega arith) i (omega arith) is none in
       (and_right _ _ (and_right _ _ rest.0), rest.1)
 
-  -- what `try_map` over the pairs gives
-  pub pairs_told : (k : ℕ) (ds : List ℕ) (pairs : List (List ℕ)) (r : Result (List ℕ) BadLine) → length ds ≡ 2 * k → pairs ≡ first_chunks 2 k ds →
+  -- what `try_map` over the pairs gives, where each call gives the byte of its pair
+  pub bytes_from_pairs : (k : ℕ) (ds : List ℕ) (pairs : List (List ℕ)) (r : Result (List ℕ) BadLine) → length ds ≡ 2 * k → pairs ≡ first_chunks 2 k ds →
       IfOk r (λ ys. AllZipBelow (λ x y. (p : F) × (q : F) × Called g p (x, tt) (Ok y) q) pairs ys k) →
       IfErr r (λ bad. (x : List ℕ) × IsAmong pairs x × (p : F) × (q : F) × Called g p (x, tt) (Err bad) q) →
       r ≡ unless (all_hexadecimal ds) NotHexadecimal (Ok (pair_values ds))
-  pairs_told k ds pairs (Ok ys) long is ok err =
+  bytes_from_pairs k ds pairs (Ok ys) long is ok err =
       let all = bytes_all k ds ys long (subst (λ ps. AllZip (λ x y. (p : F) × (q : F) × Called g p (x, tt) (Ok y) q) ps ys) is ok.whole) in
       (λ i. Ok (sym all.1 i)) ∙ sym (cond-true _ _ _ all.0)
-  pairs_told k ds pairs (Err bad) long is ok (x, among, p, q, call) =
+  bytes_from_pairs k ds pairs (Err bad) long is ok (x, among, p, q, call) =
       let here : IsAmong (first_chunks 2 k ds) x = subst (λ ps. IsAmong ps x) is among in
       let none = no_byte bad k ds x long here.0 here.1.0 here.1.1 (gives p x (Err bad) q call) in
       (λ i. Err (none.1 i)) ∙ sym (cond-false _ _ _ none.0)
 
+-- a body behind its blank, of the right length
 pub body_of_digits : (ds : List ℕ) → length ds ≡ 32 → body_of (32 ∷ ds) ≡ unless (all_hexadecimal ds) NotHexadecimal (Ok (pair_values ds))
 body_of_digits ds long = cond-true _ _ _ (and_from _ _ (lt-ltb 0 (length (32 ∷ ds)) (omega arith)) (eq-eqb 32 32 refl)) ∙ cond-true _ _ _ (eq-eqb (length ds) 32 long)
