@@ -25,7 +25,7 @@ following_is [] hs h = refl
 following_is (d ∷ ds) hs h = cond-true _ _ _ h.0 ∙ following_is ds hs h.1
 
 record_is : (ds : List ℕ) → 0 < length ds → number ds ≤ 65535 → record_of ds ≡ Ok (number ds)
-record_is ds some small = cond-true _ _ _ (lt-ltb 0 (length ds) some) ∙ cond-true _ _ _ (le-leb (number ds) 65535 small)
+record_is ds some small = grind (arith, nat_tests)
 
 body_is : (hs : List ℕ) → length hs ≡ 32 → AllByRecursion Hexadecimal hs → body_of (32 ∷ hs) ≡ Ok (pair_values hs)
 body_is hs long h = body_of_digits hs long ∙ cond-true _ _ _ (test_from_all hs h)
@@ -50,11 +50,7 @@ return_none ds hs long hex =
 
 -- one carriage return is left out
 return_one : (text : List ℕ) → without_return (text ++ 13 ∷ []) ≡ text
-return_one text =
-    let n = length_push text 13 in
-    let last : length (text ++ 13 ∷ []) - 1 ≡ length text = omega arith in
-    cond-true _ _ _ (and_from _ _ (lt-ltb 0 (length (text ++ 13 ∷ [])) (omega arith)) (eq-eqb _ 13 (get_or_push text 13 0 _ (sym last))))
-    ∙ take_at text (13 ∷ []) _ (sym last)
+return_one text = grind (arith, common_steps, nat_tests)
 
 text_of : (ds hs end line : List ℕ) → length hs ≡ 32 → AllByRecursion Hexadecimal hs → line ≡ ds ++ ((32 ∷ hs) ++ end) → (end ≡ []) ⊎ (end ≡ 13 ∷ []) → without_return line ≡ ds ++ 32 ∷ hs
 text_of ds hs end line long hex is (inl none) =
@@ -107,7 +103,7 @@ pub record Bodies (rest : List ℕ) (bytes : List ℕ) : Type 0 where
 
 blank_first : (rest : List ℕ) → begins_with 32 rest ≡ true → rest ≡ 32 ∷ drop 1 rest
 blank_first [] e = cc
-blank_first (c ∷ cs) e = ap (λ x. x ∷ cs) (eqb-true c 32 (and_parts (ltb 0 (length (c ∷ cs))) (eqb c 32) e).1)
+blank_first (c ∷ cs) e = grind (arith, nat_tests)
 
 bodies : (rest bytes : List ℕ) → body_of rest ≡ Ok bytes → Bodies rest bytes
 bodies rest bytes e =

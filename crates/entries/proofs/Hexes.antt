@@ -5,6 +5,7 @@ use Rattle.std.specs.Array.{AllZipBelow}
 use Rattle.std.specs.Fn.{Called, Mut}
 use Rattle.std.specs.Result.{IfOk, IfErr}
 use Rattle.std.specs.Simd.{first_chunks}
+use Rattle.std.proofs.lemmas.Bool.Decides.{nat_tests}
 use Rattle.std.proofs.lemmas.Bool.{and_parts, and_from, and_right, cond-true, cond-false, eq-eqb, lt-ltb}
 use Rattle.entries.specs.declared.BadLine.{BadLine}
 use Rattle.entries.specs.declared.BadLine.TheVariants.{NotHexadecimal}
@@ -13,11 +14,11 @@ use Rattle.entries.specs.Entries.{all_hexadecimal, unless, body_of}
 
 pub all_from_test : (cs : List ℕ) → all_hexadecimal cs ≡ true → AllByRecursion Hexadecimal cs
 all_from_test [] e = tt
-all_from_test (c ∷ cs) e = let both = and_parts (is_hexadecimal c) (all_hexadecimal cs) e in (both.0, all_from_test cs both.1)
+all_from_test (c ∷ cs) e = grind (arith, all_from_test cs)
 
 pub test_from_all : (cs : List ℕ) → AllByRecursion Hexadecimal cs → all_hexadecimal cs ≡ true
 test_from_all [] h = refl
-test_from_all (c ∷ cs) h = and_from (is_hexadecimal c) (all_hexadecimal cs) h.0 (test_from_all cs h.1)
+test_from_all (c ∷ cs) h = grind (arith, test_from_all cs)
 
 -- the byte of a pair of digits, or the refusal
 abbrev pub byte_in : List ℕ → Result ℕ BadLine
@@ -72,4 +73,4 @@ module _ {F : Type 0} (g : Mut F (List ℕ × Unit {0}) (Result ℕ BadLine)) (g
 
 -- a body behind its blank, of the right length
 pub body_of_digits : (ds : List ℕ) → length ds ≡ 32 → body_of (32 ∷ ds) ≡ unless (all_hexadecimal ds) NotHexadecimal (Ok (pair_values ds))
-body_of_digits ds long = cond-true _ _ _ (and_from _ _ (lt-ltb 0 (length (32 ∷ ds)) (omega arith)) (eq-eqb 32 32 refl)) ∙ cond-true _ _ _ (eq-eqb (length ds) 32 long)
+body_of_digits ds long = grind (arith, nat_tests)

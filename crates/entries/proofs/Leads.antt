@@ -1,5 +1,5 @@
 -- The decimal digits that a text begins with, and what follows them.
-use Rattle.std.proofs.Common.{◌≡◌, ℕ, ◌+◌, true, false, cond, List, [], ◌∷◌, ◌++◌, drop, sym, refl, ap, ◌∙◌}
+use Rattle.std.proofs.Common.{◌≡◌, ℕ, ◌+◌, true, false, cond, List, [], ◌∷◌, ◌++◌, drop, sym, refl, ap, ◌∙◌, arith}
 use Rattle.std.specs.List.{AllByRecursion, prefix_len, take_while}
 use Rattle.std.proofs.lemmas.Bool.{cond_both}
 use Rattle.std.proofs.lemmas.List.{take-append-drop}
@@ -10,11 +10,11 @@ use Rattle.entries.specs.Entries.{leading, following}
 
 pub leading_decimal : (xs : List ℕ) → AllByRecursion Decimal (leading xs)
 leading_decimal [] = tt
-leading_decimal (c ∷ cs) = cond_both (is_decimal c) (c ∷ leading cs) [] (AllByRecursion Decimal) (λ e. (e, leading_decimal cs)) (λ _. tt)
+leading_decimal (c ∷ cs) = grind (arith, leading_decimal cs)
 
 pub take_is : (xs : List ℕ) → take_while is_decimal xs ≡ leading xs
 take_is [] = refl
-take_is (c ∷ cs) = take_while-cons is_decimal c cs ∙ ap (λ l. cond (is_decimal c) (c ∷ l) []) (take_is cs)
+take_is (c ∷ cs) = grind (arith, take_while-cons, take_is cs)
 
 pub drop_is : (xs : List ℕ) → drop (prefix_len is_decimal xs) xs ≡ following xs
 drop_is [] = refl
