@@ -18,11 +18,11 @@ use Rattle.entries.proofs.Leads.{leading_decimal, leading_and_following}
 
 leading_is : (ds hs : List ℕ) → AllByRecursion Decimal ds → leading (ds ++ 32 ∷ hs) ≡ ds
 leading_is [] hs h = refl
-leading_is (d ∷ ds) hs h = cond-true _ _ _ h.0 ∙ ap (λ l. d ∷ l) (leading_is ds hs h.1)
+leading_is (d ∷ ds) hs h = grind (arith, leading_is ds hs)
 
 following_is : (ds hs : List ℕ) → AllByRecursion Decimal ds → following (ds ++ 32 ∷ hs) ≡ 32 ∷ hs
 following_is [] hs h = refl
-following_is (d ∷ ds) hs h = cond-true _ _ _ h.0 ∙ following_is ds hs h.1
+following_is (d ∷ ds) hs h = grind (arith, following_is ds hs)
 
 record_is : (ds : List ℕ) → 0 < length ds → number ds ≤ 65535 → record_of ds ≡ Ok (number ds)
 record_is ds some small = grind (arith, nat_tests)
@@ -43,10 +43,9 @@ hexadecimal_not_return c h e = grind (arith, nat_tests)
 pub return_none : (ds hs : List ℕ) → length hs ≡ 32 → AllByRecursion Hexadecimal hs → without_return (ds ++ 32 ∷ hs) ≡ ds ++ 32 ∷ hs
 return_none ds hs long hex =
     let n = length-append ds (32 ∷ hs) in
-    let at : length (ds ++ 32 ∷ hs) - 1 - length ds ≡ 32 = omega arith in
-    let last : get_or (ds ++ 32 ∷ hs) (length (ds ++ 32 ∷ hs) - 1) 0 ≡ get_or hs 31 0 = get_or-append_right ds (32 ∷ hs) (length ds) (length (ds ++ 32 ∷ hs) - 1) 0 refl (omega arith) ∙ ap (λ k. get_or (32 ∷ hs) k 0) at in
-    let other = hexadecimal_not_return (get_or hs 31 0) (All-get_or Hexadecimal hs 31 0 (omega arith) hex) in
-    cond-false _ _ _ (and_right _ _ (ne_eqb _ 13 (λ e. other (sym last ∙ e))))
+    let last = get_or-append_right ds (32 ∷ hs) (length ds) (length (ds ++ 32 ∷ hs) - 1) 0 refl (omega arith) in
+    let digit = All-get_or Hexadecimal hs 31 0 (omega arith) hex in
+    grind (arith, nat_tests)
 
 -- one carriage return is left out
 return_one : (text : List ℕ) → without_return (text ++ 13 ∷ []) ≡ text

@@ -1,5 +1,6 @@
 -- The number that decimal digits write.
 use Rattle.std.proofs.Common.{ℕ, ◌+◌, ◌*◌, ◌<◌, ◌≤◌, List, [], ◌∷◌, length, get_or, drop, arith}
+use Rattle.std.proofs.lemmas.Grind.{common_steps}
 use Rattle.std.proofs.lemmas.List.{at_drop_more}
 use Rattle.entries.specs.Digits.{decimal_value, number_after}
 
@@ -10,7 +11,4 @@ number_after_ge n (d ∷ ds) = let more = number_after_ge (n * 10 + decimal_valu
 
 -- nor do those behind the next digit
 pub next_le : (n : ℕ) (ds : List ℕ) (i : ℕ) → i < length ds → n * 10 + decimal_value (get_or ds i 0) ≤ number_after n (drop i ds)
-next_le n ds i h =
-    let more = at_drop_more (number_after n) ds i 0 h in
-    let ge = number_after_ge (n * 10 + decimal_value (get_or ds i 0)) (drop (i + 1) ds) in
-    omega arith
+next_le n ds i h = grind (arith, common_steps, number_after_ge, at_drop_more (number_after n) ds i 0 h)

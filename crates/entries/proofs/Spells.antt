@@ -10,7 +10,7 @@ digits b = hex_digit (b / 16) ∷ hex_digit (b % 16) ∷ []
 
 joined : (bs : List ℕ) → flat_map (λ x. x) (map digits bs) ≡ spelled bs
 joined [] = refl
-joined (b ∷ bs) = ap (λ l. hex_digit (b / 16) ∷ hex_digit (b % 16) ∷ l) (joined bs)
+joined (b ∷ bs) = grind (arith, joined bs)
 
 pub spelled_is : (pairs : List (List ℕ)) (bs : List ℕ) → length pairs ≡ length bs → ((i : ℕ) → i < length bs → get_or pairs i [] ≡ digits (get_or bs i 0)) → flat_map (λ x. x) pairs ≡ spelled bs
 spelled_is pairs bs long each =
