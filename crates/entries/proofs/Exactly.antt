@@ -1,10 +1,10 @@
 -- The lines that give an entry are those that spell it.
-use Rattle.std.proofs.Common.{◌≡◌, ℕ, ◌+◌, ◌-◌, ◌<◌, ◌≤◌, Bool, true, false, eqb, ltb, ◌⊎◌, List, [], ◌∷◌, ◌++◌, length, get_or, take, drop, Ok, Err, Result, sym, refl, ap, ◌∙◌, inl, inr, append_assoc, arith, length-append}
+use Rattle.std.proofs.Common.{◌≡◌, ℕ, ◌-◌, ◌<◌, ◌≤◌, Bool, true, false, ◌⊎◌, List, [], ◌∷◌, ◌++◌, length, get_or, take, drop, Ok, Err, Result, sym, refl, ap, ◌∙◌, inl, inr, append_assoc, arith, length-append}
 use Rattle.std.specs.List.{AllByRecursion}
 use Rattle.std.proofs.lemmas.Grind.{common_steps}
 use Rattle.std.proofs.ByRecursion.{All-get_or}
-use Rattle.std.proofs.lemmas.List.{append-nil, get_or_push, get_or-append_right, length_push, take_all, take_at, take_more}
-use Rattle.std.proofs.lemmas.Bool.{and_from, and_parts, and_right, cases_Bool, cond-true, cond-false, eq-eqb, eqb-true, le-leb, leb-true, lt-ltb, ltb-true, ne_eqb}
+use Rattle.std.proofs.lemmas.List.{append-nil, get_or-append_right}
+use Rattle.std.proofs.lemmas.Bool.{and_parts, cases_Bool, cond-true, cond-false, eqb-true, ltb-true}
 use Rattle.std.proofs.lemmas.Bool.Decides.{nat_tests}
 use Rattle.entries.specs.declared.BadLine.{BadLine}
 use Rattle.entries.specs.declared.Entry.{Entry}
@@ -35,9 +35,6 @@ entry_in_is ds hs some decimal small long hex =
     let front = ap record_of (leading_is ds hs decimal) ∙ record_is ds some small in
     let back = ap body_of (following_is ds hs decimal) ∙ body_is hs long hex in
     λ i. entry_from (front i) (back i)
-
-hexadecimal_not_return : (c : ℕ) → Hexadecimal c → c ≡ 13 → ⊥
-hexadecimal_not_return c h e = grind (arith, nat_tests)
 
 -- a line that ends in a hexadecimal digit stays as it is
 pub return_none : (ds hs : List ℕ) → length hs ≡ 32 → AllByRecursion Hexadecimal hs → without_return (ds ++ 32 ∷ hs) ≡ ds ++ 32 ∷ hs
@@ -89,10 +86,7 @@ pub record Numbers (ds : List ℕ) (n : ℕ) : Type 0 where
   pub is : n ≡ number ds
 
 numbers : (ds : List ℕ) (n : ℕ) → record_of ds ≡ Ok n → Numbers ds n
-numbers ds n e =
-    let first = passed _ _ _ n e in
-    let second = passed _ _ _ n first.1 in
-    record { some = ltb-true 0 (length ds) first.0; small = leb-true (number ds) 65535 second.0; is = let last = second.1 in cc }
+numbers ds n e = record { some = grind (arith, nat_tests); small = grind (arith, nat_tests); is = grind (arith, nat_tests) }
 
 pub record Bodies (rest : List ℕ) (bytes : List ℕ) : Type 0 where
   pub blank : rest ≡ 32 ∷ drop 1 rest

@@ -6,7 +6,7 @@ use Rattle.std.specs.Fn.{Called, Mut}
 use Rattle.std.specs.Result.{IfOk, IfErr}
 use Rattle.std.specs.Simd.{first_chunks}
 use Rattle.std.proofs.lemmas.Bool.Decides.{nat_tests}
-use Rattle.std.proofs.lemmas.Bool.{and_parts, and_from, and_right, cond-true, cond-false, eq-eqb, lt-ltb}
+use Rattle.std.proofs.lemmas.Bool.{and_from, and_right, cond-true, cond-false}
 use Rattle.entries.specs.declared.BadLine.{BadLine}
 use Rattle.entries.specs.declared.BadLine.TheVariants.{NotHexadecimal}
 use Rattle.entries.specs.Digits.{is_hexadecimal, Hexadecimal, hex_value, pair_values}
