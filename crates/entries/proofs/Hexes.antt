@@ -22,14 +22,25 @@ test_from_all (c ∷ cs) h = grind (arith, test_from_all cs)
 
 -- the byte of a pair of digits, or the refusal
 abbrev pub byte_in : List ℕ → Result ℕ BadLine
-byte_in pair = unless (is_hexadecimal (get_or pair 0 0)) NotHexadecimal (unless (is_hexadecimal (get_or pair 1 0)) NotHexadecimal (Ok (hex_value (get_or pair 0 0) * 16 + hex_value (get_or pair 1 0))))
+byte_in pair = unless (all_hexadecimal pair) NotHexadecimal (Ok (get_or (pair_values pair) 0 0))
 
-both_passed : (s t : Bool) (v y : ℕ) → Ok y ≡ unless s NotHexadecimal (unless t NotHexadecimal (Ok v)) → (s ≡ true) × (t ≡ true) × (v ≡ y)
+one_by_one : (s t : Bool) (v : ℕ) → unless (s && (t && true)) NotHexadecimal (Ok v) ≡ unless s NotHexadecimal (unless t NotHexadecimal (Ok v))
+one_by_one true true v = refl
+one_by_one true false v = refl
+one_by_one false t v = refl
+
+pub of_two : (pair : List ℕ) → length pair ≡ 2 → byte_in pair ≡ unless (is_hexadecimal (get_or pair 0 0)) NotHexadecimal (unless (is_hexadecimal (get_or pair 1 0)) NotHexadecimal (Ok (hex_value (get_or pair 0 0) * 16 + hex_value (get_or pair 1 0))))
+of_two [] e = absurd (omega arith)
+of_two (a ∷ []) e = absurd (omega arith)
+of_two (a ∷ b ∷ []) e = one_by_one (is_hexadecimal a) (is_hexadecimal b) _
+of_two (a ∷ b ∷ c ∷ l) e = absurd (omega arith)
+
+both_passed : (s t : Bool) (v y : ℕ) → Ok y ≡ unless (s && (t && true)) NotHexadecimal (Ok v) → (s ≡ true) × (t ≡ true) × (v ≡ y)
 both_passed true true v y e = (refl, refl, cc)
 both_passed true false v y e = cc
 both_passed false t v y e = cc
 
-one_failed : (s t u : Bool) (v : ℕ) (bad : BadLine) → Err bad ≡ unless s NotHexadecimal (unless t NotHexadecimal (Ok v)) → ((s && (t && u)) ≡ false) × (bad ≡ NotHexadecimal)
+one_failed : (s t u : Bool) (v : ℕ) (bad : BadLine) → Err bad ≡ unless (s && (t && true)) NotHexadecimal (Ok v) → ((s && (t && u)) ≡ false) × (bad ≡ NotHexadecimal)
 one_failed true true u v bad e = cc
 one_failed true false u v bad e = (refl, cc)
 one_failed false t u v bad e = (refl, cc)

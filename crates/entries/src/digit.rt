@@ -1,7 +1,7 @@
 // Decimal and hexadecimal digits, as bytes of text.
-ghost use Rattle.std.specs.Prelude.{◌≡◌, ◌+◌, ◌*◌, ◌/◌, ◌%◌, ◌<◌, [], ◌∷◌, IfOk, slice_index};
-ghost use Rattle.entries.specs.Digits.{is_hexadecimal, hex_value, hex_digit};
-ghost use Rattle.entries.specs.Entries.{unless};
+ghost use Rattle.std.specs.Prelude.{◌≡◌, ◌/◌, ◌%◌, ◌<◌, [], ◌∷◌, IfOk, slice_index};
+ghost use Rattle.entries.specs.Digits.{is_hexadecimal, hex_value, pair_values, hex_digit};
+ghost use Rattle.entries.specs.Entries.{all_hexadecimal, unless};
 
 use super::BadLine;
 
@@ -15,8 +15,9 @@ fn hex_value(c: u8) -> Result<u8, BadLine>
 }
 
 // The byte that a pair of hexadecimal digits writes, the more significant one first.
+#[tactic(auto, using(crate::proofs::Hexes::of_two))]
 pub(crate) fn byte_of(pair: [u8; 2]) -> Result<u8, BadLine>
-    ensures { let high = slice_index pair 0 in let low = slice_index pair 1 in result ≡ unless (is_hexadecimal high) BadLine.NotHexadecimal (unless (is_hexadecimal low) BadLine.NotHexadecimal (Ok (hex_value high * 16 + hex_value low))) }
+    ensures { result ≡ unless (all_hexadecimal pair) BadLine.NotHexadecimal (Ok (slice_index (pair_values pair) 0)) }
 {
     let [high, low] = pair;
     Ok(hex_value(high)? * 16 + hex_value(low)?)
