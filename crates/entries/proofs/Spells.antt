@@ -1,12 +1,12 @@
 -- The digits that spell bytes.
-use Rattle.std.proofs.Common.{◌≡◌, ℕ, ◌<◌, ◌/◌, ◌%◌, List, [], ◌∷◌, length, get_or, map, sym, refl, ap, ◌∙◌, arith}
+use Rattle.std.proofs.Common.{◌≡◌, ℕ, ◌<◌, List, [], ◌∷◌, length, get_or, map, sym, refl, ap, ◌∙◌, arith}
 use Rattle.std.specs.List.{flat_map}
 use Rattle.std.proofs.lemmas.List.{ext_get_or, get_or-map, length-map}
-use Rattle.entries.specs.Digits.{hex_digit, spelled}
+use Rattle.entries.specs.Digits.{spelled}
 
 -- the digits of one byte
 abbrev pub digits : ℕ → List ℕ
-digits b = hex_digit (b / 16) ∷ hex_digit (b % 16) ∷ []
+digits b = spelled (b ∷ [])
 
 joined : (bs : List ℕ) → flat_map (λ x. x) (map digits bs) ≡ spelled bs
 joined [] = refl

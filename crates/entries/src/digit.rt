@@ -1,6 +1,6 @@
 // Decimal and hexadecimal digits, as bytes of text.
-ghost use Rattle.std.specs.Prelude.{◌≡◌, ◌/◌, ◌%◌, ◌<◌, [], ◌∷◌, IfOk, slice_index};
-ghost use Rattle.entries.specs.Digits.{is_hexadecimal, hex_value, pair_values, hex_digit};
+ghost use Rattle.std.specs.Prelude.{◌≡◌, ◌<◌, [], ◌∷◌, IfOk, slice_index};
+ghost use Rattle.entries.specs.Digits.{is_hexadecimal, hex_value, pair_values, hex_digit, spelled};
 ghost use Rattle.entries.specs.Entries.{all_hexadecimal, unless};
 
 use super::BadLine;
@@ -33,7 +33,7 @@ fn hex_digit(n: u8) -> u8
 
 // The two digits of a byte, the more significant one first.
 pub(crate) fn digits_of(byte: u8) -> [u8; 2]
-    ensures { result ≡ hex_digit (byte / 16) ∷ hex_digit (byte % 16) ∷ [] }
+    ensures { result ≡ spelled (byte ∷ []) }
 {
     [hex_digit(byte / 16), hex_digit(byte % 16)]
 }
