@@ -1,36 +1,34 @@
 -- The lines that give an entry are those that spell it.
-use Rattle.std.proofs.Common.{◌≡◌, ℕ, ◌+◌, ◌-◌, ◌<◌, ◌≤◌, Bool, true, false, eqb, ltb, ◌⊎◌, List, [], ◌∷◌, ◌++◌, length, get_or, take, drop, Ok, Err, Result, sym, refl, ap, ◌∙◌, inl, inr, append_assoc, arith, length-append}
+use Rattle.std.proofs.Common.{◌≡◌, ℕ, ◌-◌, ◌<◌, ◌≤◌, Bool, true, false, ◌⊎◌, List, [], ◌∷◌, ◌++◌, length, get_or, take, drop, Ok, Err, Result, sym, refl, ap, ◌∙◌, inl, inr, append_assoc, arith, length-append}
 use Rattle.std.specs.List.{AllByRecursion}
+use Rattle.std.proofs.lemmas.Grind.{common_steps}
 use Rattle.std.proofs.ByRecursion.{All-get_or}
-use Rattle.std.proofs.lemmas.List.{append-nil, get_or_push, get_or-append_right, length_push, take_all, take_at, take_more}
-use Rattle.std.proofs.lemmas.Bool.{and_from, and_parts, and_right, cases_Bool, cond-true, cond-false, eq-eqb, eqb-true, le-leb, leb-true, lt-ltb, ltb-true, ne_eqb}
+use Rattle.std.proofs.lemmas.List.{append-nil, get_or-append_right}
+use Rattle.std.proofs.lemmas.Bool.{and_parts, cases_Bool, cond-true, cond-false, eqb-true, ltb-true}
 use Rattle.std.proofs.lemmas.Bool.Decides.{nat_tests}
 use Rattle.entries.specs.declared.BadLine.{BadLine}
 use Rattle.entries.specs.declared.Entry.{Entry}
 use Rattle.entries.specs.Digits.{Decimal, number, Hexadecimal, pair_values}
 use Rattle.entries.specs.Entries.{begins_with, ends_with, without_return, leading, following, unless, record_of, body_of, entry_from, entry_in, entry_of}
 use Rattle.entries.specs.Spelling.{Spells, ReadsExactly}
-use Rattle.entries.proofs.Hexes.{all_from_test, test_from_all}
+use Rattle.entries.proofs.Hexes.{all_from_test, test_from_all, body_of_digits}
 use Rattle.entries.proofs.Leads.{leading_decimal, leading_and_following}
 
 -- from a line that spells an entry to the entry
 
 leading_is : (ds hs : List ℕ) → AllByRecursion Decimal ds → leading (ds ++ 32 ∷ hs) ≡ ds
 leading_is [] hs h = refl
-leading_is (d ∷ ds) hs h = cond-true _ _ _ h.0 ∙ ap (λ l. d ∷ l) (leading_is ds hs h.1)
+leading_is (d ∷ ds) hs h = grind (arith, leading_is ds hs)
 
 following_is : (ds hs : List ℕ) → AllByRecursion Decimal ds → following (ds ++ 32 ∷ hs) ≡ 32 ∷ hs
 following_is [] hs h = refl
-following_is (d ∷ ds) hs h = cond-true _ _ _ h.0 ∙ following_is ds hs h.1
+following_is (d ∷ ds) hs h = grind (arith, following_is ds hs)
 
 record_is : (ds : List ℕ) → 0 < length ds → number ds ≤ 65535 → record_of ds ≡ Ok (number ds)
-record_is ds some small = cond-true _ _ _ (lt-ltb 0 (length ds) some) ∙ cond-true _ _ _ (le-leb (number ds) 65535 small)
+record_is ds some small = grind (arith, nat_tests)
 
 body_is : (hs : List ℕ) → length hs ≡ 32 → AllByRecursion Hexadecimal hs → body_of (32 ∷ hs) ≡ Ok (pair_values hs)
-body_is hs long h =
-    cond-true _ _ _ (and_from _ _ (lt-ltb 0 (length (32 ∷ hs)) (omega arith)) (eq-eqb 32 32 refl))
-    ∙ cond-true _ _ _ (eq-eqb (length hs) 32 long)
-    ∙ cond-true _ _ _ (test_from_all hs h)
+body_is hs long h = body_of_digits hs long ∙ cond-true _ _ _ (test_from_all hs h)
 
 pub entry_in_is : (ds hs : List ℕ) → 0 < length ds → AllByRecursion Decimal ds → number ds ≤ 65535 → length hs ≡ 32 → AllByRecursion Hexadecimal hs → entry_in (ds ++ 32 ∷ hs) ≡ Ok (record { «record» = number ds; body = pair_values hs })
 entry_in_is ds hs some decimal small long hex =
@@ -38,25 +36,17 @@ entry_in_is ds hs some decimal small long hex =
     let back = ap body_of (following_is ds hs decimal) ∙ body_is hs long hex in
     λ i. entry_from (front i) (back i)
 
-hexadecimal_not_return : (c : ℕ) → Hexadecimal c → c ≡ 13 → ⊥
-hexadecimal_not_return c h e = grind (arith, nat_tests)
-
 -- a line that ends in a hexadecimal digit stays as it is
 pub return_none : (ds hs : List ℕ) → length hs ≡ 32 → AllByRecursion Hexadecimal hs → without_return (ds ++ 32 ∷ hs) ≡ ds ++ 32 ∷ hs
 return_none ds hs long hex =
     let n = length-append ds (32 ∷ hs) in
-    let at : length (ds ++ 32 ∷ hs) - 1 - length ds ≡ 32 = omega arith in
-    let last : get_or (ds ++ 32 ∷ hs) (length (ds ++ 32 ∷ hs) - 1) 0 ≡ get_or hs 31 0 = get_or-append_right ds (32 ∷ hs) (length ds) (length (ds ++ 32 ∷ hs) - 1) 0 refl (omega arith) ∙ ap (λ k. get_or (32 ∷ hs) k 0) at in
-    let other = hexadecimal_not_return (get_or hs 31 0) (All-get_or Hexadecimal hs 31 0 (omega arith) hex) in
-    cond-false _ _ _ (and_right _ _ (ne_eqb _ 13 (λ e. other (sym last ∙ e))))
+    let last = get_or-append_right ds (32 ∷ hs) (length ds) (length (ds ++ 32 ∷ hs) - 1) 0 refl (omega arith) in
+    let digit = All-get_or Hexadecimal hs 31 0 (omega arith) hex in
+    grind (arith, nat_tests)
 
 -- one carriage return is left out
 return_one : (text : List ℕ) → without_return (text ++ 13 ∷ []) ≡ text
-return_one text =
-    let n = length_push text 13 in
-    let last : length (text ++ 13 ∷ []) - 1 ≡ length text = omega arith in
-    cond-true _ _ _ (and_from _ _ (lt-ltb 0 (length (text ++ 13 ∷ [])) (omega arith)) (eq-eqb _ 13 (get_or_push text 13 0 _ (sym last))))
-    ∙ take_at text (13 ∷ []) _ (sym last)
+return_one text = grind (arith, common_steps, nat_tests)
 
 text_of : (ds hs end line : List ℕ) → length hs ≡ 32 → AllByRecursion Hexadecimal hs → line ≡ ds ++ ((32 ∷ hs) ++ end) → (end ≡ []) ⊎ (end ≡ 13 ∷ []) → without_return line ≡ ds ++ 32 ∷ hs
 text_of ds hs end line long hex is (inl none) =
@@ -80,11 +70,11 @@ entry_from_spells line e s =
 
 passed : {A : Type 0} (test : Bool) (bad : BadLine) (more : Result A BadLine) (x : A) → unless test bad more ≡ Ok x → (test ≡ true) × (more ≡ Ok x)
 passed true bad more x e = (refl, e)
-passed false bad more x e = let z : ◌≡◌ {A = ℕ} 0 1 = cc in absurd (omega arith)
+passed false bad more x e = cc
 
 both_from : (r : Result ℕ BadLine) (b : Result (List ℕ) BadLine) (e : Entry) → entry_from r b ≡ Ok e → (r ≡ Ok e.«record») × (b ≡ Ok e.body)
-both_from (Err bad) b e h = let z : ◌≡◌ {A = ℕ} 0 1 = cc in absurd (omega arith)
-both_from (Ok n) (Err bad) e h = let z : ◌≡◌ {A = ℕ} 0 1 = cc in absurd (omega arith)
+both_from (Err bad) b e h = cc
+both_from (Ok n) (Err bad) e h = cc
 both_from (Ok n) (Ok bytes) e h =
     let whole : Entry = record { «record» = n; body = bytes } in
     let same : whole ≡ e = cc in
@@ -96,10 +86,7 @@ pub record Numbers (ds : List ℕ) (n : ℕ) : Type 0 where
   pub is : n ≡ number ds
 
 numbers : (ds : List ℕ) (n : ℕ) → record_of ds ≡ Ok n → Numbers ds n
-numbers ds n e =
-    let first = passed _ _ _ n e in
-    let second = passed _ _ _ n first.1 in
-    record { some = ltb-true 0 (length ds) first.0; small = leb-true (number ds) 65535 second.0; is = let last = second.1 in cc }
+numbers ds n e = record { some = grind (arith, nat_tests); small = grind (arith, nat_tests); is = grind (arith, nat_tests) }
 
 pub record Bodies (rest : List ℕ) (bytes : List ℕ) : Type 0 where
   pub blank : rest ≡ 32 ∷ drop 1 rest
@@ -108,8 +95,8 @@ pub record Bodies (rest : List ℕ) (bytes : List ℕ) : Type 0 where
   pub is : bytes ≡ pair_values (drop 1 rest)
 
 blank_first : (rest : List ℕ) → begins_with 32 rest ≡ true → rest ≡ 32 ∷ drop 1 rest
-blank_first [] e = let z : ◌≡◌ {A = ℕ} 0 1 = cc in absurd (omega arith)
-blank_first (c ∷ cs) e = ap (λ x. x ∷ cs) (eqb-true c 32 (and_parts (ltb 0 (length (c ∷ cs))) (eqb c 32) e).1)
+blank_first [] e = cc
+blank_first (c ∷ cs) e = grind (arith, nat_tests)
 
 bodies : (rest bytes : List ℕ) → body_of rest ≡ Ok bytes → Bodies rest bytes
 bodies rest bytes e =
@@ -130,12 +117,7 @@ pub record Ends (line : List ℕ) : Type 0 where
   pub ends : (ending ≡ []) ⊎ (ending ≡ 13 ∷ [])
 
 last_cut : (line : List ℕ) (c : ℕ) → 0 < length line → get_or line (length line - 1) 0 ≡ c → line ≡ take (length line - 1) line ++ c ∷ []
-last_cut line c some e =
-    let all : length line ≡ length line - 1 + 1 = omega arith in
-    sym (take_all (length line) line (omega arith))
-    ∙ ap (λ n. take n line) all
-    ∙ take_more line (length line - 1) 0 (omega arith)
-    ∙ ap (λ x. take (length line - 1) line ++ x ∷ []) e
+last_cut line c some e = grind (arith, common_steps)
 
 ends_of : (line : List ℕ) → Ends line
 ends_of line =

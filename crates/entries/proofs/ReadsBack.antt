@@ -31,7 +31,7 @@ hexadecimal_spelled (b ∷ bs) h = let byte = h.0 in (digit_is (b / 16) (omega a
 
 length_spelled : (bs : List ℕ) → length (spelled bs) ≡ 2 * length bs
 length_spelled [] = refl
-length_spelled (b ∷ bs) = let more = length_spelled bs in omega arith
+length_spelled (b ∷ bs) = grind (arith, length_spelled bs)
 
 spelled_reads_back : (ds bytes : List ℕ) → 0 < length ds → AllByRecursion Decimal ds → number ds ≤ 65535 → length bytes ≡ 16 → AllByRecursion (λ b. b < 256) bytes →
     entry_of (ds ++ (32 ∷ spelled bytes)) ≡ Ok (record { «record» = number ds; body = bytes })

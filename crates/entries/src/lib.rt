@@ -8,7 +8,7 @@ ghost use Rattle.entries.specs.Messages.{message};
 ghost use Rattle.entries.specs.Spelling.{line_of, ReadsExactly, ShownReadsBack};
 
 use digit::digits_of;
-use line::{read_body, read_record, split_digits, without_return};
+use line::{read_body, read_record, without_return};
 use std::fmt;
 use std::str::from_utf8;
 
@@ -18,7 +18,7 @@ mod line;
 mod tests;
 
 // What one line loads.
-#[derive(Clone, Copy, Debug)]
+#[derive(Clone, Copy, PartialEq, Eq, Debug)]
 pub struct Entry {
     pub record: u16,
     pub body: [u8; 16],
@@ -29,11 +29,9 @@ impl fmt::Display for Entry {
     ghost output = { λ e. Some (line_of e) };
 
     fn fmt<W: fmt::Write>(&self, f: &mut fmt::Formatter<W>) -> fmt::Result {
-        let record = self.record;
-        match from_utf8(&spell_body(&self.body)) {
-            Ok(digits) => write!(f, "{record} {digits}"),
-            Err(_) => Err(fmt::Error),
-        }
+        let body = spell_body(&self.body);
+        let digits = from_utf8(&body).map_err(|_| fmt::Error)?;
+        write!(f, "{} {digits}", self.record)
     }
 }
 
@@ -56,32 +54,23 @@ impl fmt::Display for BadLine {
     ghost output = { λ bad. Some (message bad) };
 
     fn fmt<W: fmt::Write>(&self, f: &mut fmt::Formatter<W>) -> fmt::Result {
-        f.write_str(self.words())
-    }
-}
-
-impl BadLine {
-    // The message for each reason.
-    fn words(&self) -> &'static str
-        ensures { result.now ≡ message self.now }
-    {
-        match self {
+        f.write_str(match self {
             BadLine::NoRecord => "no record number at the start of the line",
             BadLine::RecordTooLarge => "record number above 65535",
             BadLine::NoBlank => "no blank after the record number",
             BadLine::WrongLength => "not exactly 32 digits after the blank",
             BadLine::NotHexadecimal => "not a hexadecimal digit among the 32",
-        }
+        })
     }
 }
 
 // The entry that a line gives, as `7 00112233445566778899AABBCCDDEEFF`.
+#[tactic(auto, using(crate::proofs::Exactly::reads_exactly))]
 pub fn read_entry(line: &[u8]) -> Result<Entry, BadLine>
     ensures said { result ≡ entry_of line.now }
     ensures exactly { ReadsExactly line.now result }
 {
-    let (digits, rest) = split_digits(without_return(line));
-    let record = read_record(digits)?;
+    let (record, rest) = read_record(without_return(line))?;
     let body = read_body(rest)?;
     Ok(Entry { record, body })
 }
@@ -91,17 +80,12 @@ pub fn spell_body(body: &[u8; 16]) -> [u8; 32]
     ensures { result ≡ spelled body.now }
 {
     let mut text = [0; 32];
-    for k in 0..16 {
-        let (high, low) = digits_of(body[k]);
-        text[2 * k] = high;
-        text[2 * k + 1] = low;
-    }
+    text.copy_from_slice(body.map(digits_of).as_flattened());
     text
 }
 
 // The line that is shown of an entry gives that entry.
-pub fn shown_reads_back() -> u8
+#[tactic(auto, using(crate::proofs::ReadsBack::shown_reads_back))]
+pub fn shown_reads_back()
     ensures { ShownReadsBack }
-{
-    0
-}
+{}

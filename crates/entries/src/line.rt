@@ -1,11 +1,11 @@
 // The parts of a line: its record number, and the digits of its body.
-ghost use Rattle.std.specs.Prelude.{◌≡◌, true, length, drop, if◌then◌else◌, Some, None, nat_le};
-ghost use Rattle.std.specs.List.{AllByRecursion};
-ghost use Rattle.entries.specs.Digits.{Decimal, number as number_in, pair_values};
-ghost use Rattle.entries.specs.Entries.{begins_with, without_return as trimmed, leading, following, all_hexadecimal, record_of, body_of};
+ghost use Rattle.std.specs.Prelude.{◌≡◌, if◌then◌else◌, Some, None, nat_le, MatchResult, IfOk};
+ghost use Rattle.std.specs.List.{AllByRecursion, prefix_len};
+ghost use Rattle.entries.specs.Digits.{is_decimal, Decimal, number as number_in, pair_values};
+ghost use Rattle.entries.specs.Entries.{without_return as trimmed, leading, following, all_hexadecimal, unless, record_of, body_of};
 
 use super::BadLine;
-use super::digit::{byte_of, is_decimal, is_hexadecimal, with_digit};
+use super::digit::byte_of;
 
 // The line, less the one carriage return that it may end in.
 pub(crate) fn without_return(line: &[u8]) -> &[u8]
@@ -19,102 +19,57 @@ pub(crate) fn without_return(line: &[u8]) -> &[u8]
 
 // How many decimal digits the text begins with.
 fn count_digits(text: &[u8]) -> usize
-    ensures { result ≡ length (leading text.now) }
+    ensures { result ≡ prefix_len is_decimal text.now }
 {
-    for (i, c) in text.iter().enumerate() {
-        if !is_decimal(*c) {
-            return i;
-        }
-    }
-    text.len()
-}
-
-// The decimal digits that the text begins with, and what follows them.
-pub(crate) fn split_digits(text: &[u8]) -> (&[u8], &[u8])
-    ensures digits { result.0.now ≡ leading text.now }
-    ensures decimal { AllByRecursion Decimal result.0.now }
-    ensures rest { result.1.now ≡ following text.now }
-{
-    text.split_at(count_digits(text))
+    text.iter().take_while(|c| c.is_ascii_digit()).count()
 }
 
 // The number that decimal digits write, where it is a record number.
+#[tactic(auto, using(crate::proofs::Numbers::next_le))]
 fn number_of(digits: &[u8]) -> Option<u16>
     requires { AllByRecursion Decimal digits.now }
     ensures { result ≡ (if nat_le (number_in digits.now) 65535 then Some (number_in digits.now) else None) }
 {
-    let mut number = 0;
+    let mut number = 0u16;
     for digit in digits {
-        number = with_digit(number, *digit)?;
+        number = number
+            .checked_mul(10)?
+            .checked_add(u16::from(digit - b'0'))?;
     }
     Some(number)
 }
 
-// The record number that the leading digits of a line write.
-pub(crate) fn read_record(digits: &[u8]) -> Result<u16, BadLine>
-    requires { AllByRecursion Decimal digits.now }
-    ensures { result ≡ record_of digits.now }
+// The record number that the text begins with, and what follows its digits.
+#[tactic(auto, using(crate::proofs::Leads::leads))]
+pub(crate) fn read_record(text: &[u8]) -> Result<(u16, &[u8]), BadLine>
+    ensures number { MatchResult result (λ read. Ok read.0 ≡ record_of (leading text.now)) (λ bad. Err bad ≡ record_of (leading text.now)) }
+    ensures rest { IfOk result (λ read. read.1.now ≡ following text.now) }
 {
+    let (digits, rest) = text.split_at(count_digits(text));
     if digits.is_empty() {
         return Err(BadLine::NoRecord);
     }
-    number_of(digits).ok_or(BadLine::RecordTooLarge)
-}
-
-// Whether a blank follows the record number.
-fn begins_with_blank(rest: &[u8]) -> bool
-    ensures { result ≡ begins_with 32 rest.now }
-{
-    !rest.is_empty() && rest[0] == b' '
-}
-
-// Whether each byte is a hexadecimal digit.
-fn all_hexadecimal(digits: &[u8]) -> bool
-    ensures { result ≡ all_hexadecimal digits.now }
-{
-    for c in digits {
-        if !is_hexadecimal(*c) {
-            return false;
-        }
-    }
-    true
+    let record = number_of(digits).ok_or(BadLine::RecordTooLarge)?;
+    Ok((record, rest))
 }
 
 // The sixteen bytes that 32 hexadecimal digits write.
-fn bytes_of(digits: &[u8]) -> [u8; 16]
-    requires hexadecimal { all_hexadecimal digits.now ≡ true }
-    requires long { length digits.now ≡ 32 }
-    ensures { result ≡ pair_values digits.now }
+fn bytes_of(digits: &[u8; 32]) -> Result<[u8; 16], BadLine>
+    ensures { result ≡ unless (all_hexadecimal digits.now) BadLine.NotHexadecimal (Ok (pair_values digits.now)) }
 {
-    let mut bytes = [0; 16];
-    for k in 0..16 {
-        bytes[k] = byte_of(digits[2 * k], digits[2 * k + 1]);
-    }
-    bytes
-}
-
-// What follows the blank.
-fn after_blank(rest: &[u8]) -> &[u8]
-    requires { begins_with 32 rest.now ≡ true }
-    ensures { result.now ≡ drop 1 rest.now }
-{
-    let (_, digits) = rest.split_at(1);
-    digits
+    let (pairs, _) = digits.as_chunks();
+    let pairs: &[[u8; 2]; 16] = pairs.as_array().unwrap();
+    pairs.try_map(byte_of)
 }
 
 // The body that follows the record number.
+#[tactic(auto, using(crate::proofs::Hexes::body_of_digits))]
 pub(crate) fn read_body(rest: &[u8]) -> Result<[u8; 16], BadLine>
     ensures { result ≡ body_of rest.now }
 {
-    if !begins_with_blank(rest) {
+    let Some((b' ', digits)) = rest.split_first() else {
         return Err(BadLine::NoBlank);
-    }
-    let digits = after_blank(rest);
-    if digits.len() != 32 {
-        return Err(BadLine::WrongLength);
-    }
-    if !all_hexadecimal(digits) {
-        return Err(BadLine::NotHexadecimal);
-    }
-    Ok(bytes_of(digits))
+    };
+    let digits = digits.as_array().ok_or(BadLine::WrongLength)?;
+    bytes_of(digits)
 }

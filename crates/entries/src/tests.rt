@@ -1,20 +1,5 @@
 // Lines that give an entry, and lines that do not.
-ghost use Rattle.std.specs.Prelude.{◌&&◌, nat_eq};
-ghost use Rattle.std.specs.Cmp.Lexicographic.{pointwise};
-ghost use Rattle.std.specs.Cmp.Rules.{comparing};
-ghost use Rattle.std.proofs.Common.{rules};
-
 use super::*;
-
-impl PartialEq for Entry {
-    ghost eq = { λ x y. nat_eq x.«record» y.«record» && pointwise nat_eq x.body y.body };
-
-    ghost laws = { Prim.search (comparing, rules) };
-
-    fn eq(&self, other: &Entry) -> bool {
-        self.record == other.record && self.body == other.body
-    }
-}
 
 const BODY: [u8; 16] = [
     0x00, 0x11, 0x22, 0x33, 0x44, 0x55, 0x66, 0x77, 0x88, 0x99, 0xAA, 0xBB, 0xCC, 0xDD, 0xEE, 0xFF,
