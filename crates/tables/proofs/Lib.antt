@@ -1,3 +1,4 @@
 pub mod Rows
 mod Leasts
+mod Mapped
 mod Arrays
