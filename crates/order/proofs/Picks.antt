@@ -9,9 +9,9 @@ use Rattle.order.specs.declared.candidate.Candidate.{Candidate}
 use Rattle.order.proofs.Bests.{IsOrder, Best, members, foremost_of, none_of, cons_cases, best_begun, best_more}
 
 -- the test decides a strict total order
-record IsTest {A : Type 0} (before : A → A → Type 0) (test : A → A → Bool) : Type 0 where
-  decides : (x y : A) → Decides (test x y) (before x y)
-  order : IsOrder before
+pub record IsTest {A : Type 0} (before : A → A → Type 0) (test : A → A → Bool) : Type 0 where
+  pub decides : (x y : A) → Decides (test x y) (before x y)
+  pub order : IsOrder before
 
 module _ {A : Type 0} {before : A → A → Type 0} {test : A → A → Bool} (is : IsTest before test) where
   -- the better of one more member and the best of a list
@@ -65,7 +65,7 @@ open_section_picked = picked open_sections
 
 -- candidates --
 
-candidates : IsTest CandidateBefore candidate_test
+pub candidates : IsTest CandidateBefore candidate_test
 candidates = record {
   decides = λ x y. search rules;
   order = record { irreflexive = λ x. search rules; transitive = λ x y z. search rules; total = λ x y. search rules };

@@ -24,7 +24,7 @@ Picked {A = A} before row (Some m) = TheForemost before row m
 abbrev pub Nearer : {A : Type 0} → (A → A → Type 0) → A → A → A → Type 0
 Nearer before best x r = (before x best × (r ≡ x)) ⊎ ((before x best → ⊥) × (r ≡ best))
 
--- the same by a test
+-- of a place and the best so far, what is kept by a test
 abbrev pub better : {A : Type 0} → (A → A → Bool) → Option A → Option A → Option A
 better test None best = best
 better test (Some x) None = Some x

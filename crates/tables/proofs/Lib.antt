@@ -1,5 +1,5 @@
-pub mod Rows
 mod Leasts
+mod Mapped
 mod Arrays
 mod FirstHour
 mod FromFn

@@ -1,21 +1,21 @@
 -- The foremost of rows, of which each is picked alone, is the foremost of all of them.
-use Rattle.std.proofs.Common.{◌≡◌, Bool, List, [], ◌∷◌, ◌++◌, map, Some, None, Decides, Option, sym, refl, ap, ◌∙◌, arith}
+use Rattle.std.proofs.Common.{◌≡◌, Bool, List, [], ◌∷◌, ◌++◌, map, Some, None, Option, sym, refl, ap, ◌∙◌, arith}
 use Rattle.std.specs.List.{flat_map}
 use Rattle.order.specs.Order.{better, pick}
+use Rattle.order.proofs.Picks.{IsTest}
 
 -- by a test that decides a strict total order
-module _ {A : Type 0} (before : A → A → Type 0) (test : A → A → Bool) (decides : (x y : A) → Decides (test x y) (before x y))
-    (transitive : (x y z : A) → before x y → before y z → before x z) (total : (x y : A) → (before x y → ⊥) → (before y x → ⊥) → x ≡ y) where
+module _ {A : Type 0} {before : A → A → Type 0} {test : A → A → Bool} (is : IsTest before test) where
   better_assoc : (a b c : Option A) → better test a (better test b c) ≡ better test (better test a b) c
   better_assoc None b c = refl
   better_assoc (Some x) None c = refl
   better_assoc (Some x) (Some y) None = grind arith
   better_assoc (Some x) (Some y) (Some z) =
-      let a = decides x y in
-      let b = decides y z in
-      let c = decides z y in
-      let d = decides x z in
-      grind (arith, transitive x y z, transitive x z y, total z y)
+      let a = is.decides x y in
+      let b = is.decides y z in
+      let c = is.decides z y in
+      let d = is.decides x z in
+      grind (arith, is.order.transitive x y z, is.order.transitive x z y, is.order.total z y)
 
   pick_append : (xs ys : List (Option A)) → pick test (xs ++ ys) ≡ better test (pick test xs) (pick test ys)
   unfolding pick

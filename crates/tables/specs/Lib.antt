@@ -1,3 +1,4 @@
 pub mod Tested
 pub mod View
 pub mod Inners
+pub mod Closures

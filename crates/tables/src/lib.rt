@@ -2,12 +2,13 @@
 #![tactic(auto)]
 
 mod asked;
-mod change;
 pub mod hold_number;
 pub mod inner;
 mod log;
 pub mod logs;
 pub mod masters;
+pub mod patch;
 mod section;
 pub mod sections;
+mod stage;
 pub mod user;

@@ -1,15 +1,22 @@
 // A user's log: eight slots, used as a ring.
-ghost use Rattle.std.specs.Prelude.{◌≡◌, ℕ, ◌&&◌, Some, None};
-ghost use Rattle.model.specs.Tools.{put, on_some};
+ghost use Rattle.std.specs.Prelude.{◌≡◌, ℕ, ◌&&◌, Bool, None};
+ghost use Rattle.model.specs.Tools.{put, on_some, least};
 ghost use Rattle.model.specs.Worlds.{blank};
 ghost use Rattle.model.specs.Versions.{place_of};
 ghost use Rattle.model.specs.Drafts.{draft_age, has_draft, has_drafts, free_age, settled};
+ghost use Rattle.model.specs.declared.body.Body.{Body};
+ghost use Rattle.tables.specs.Closures.{Computes};
 ghost use Rattle.tables.specs.View.{places_of, edited_slot, without_draft, written_within};
 
-use crate::change::{
-    clear_slots, is_draft, is_draft_of, is_free, remove_drafts, settle_slots, write_slots,
-};
+use crate::patch::Patch;
+use crate::stage::{is_draft, is_draft_of, settled_stage};
+use model::body::{Body, Mark};
 use model::slot::Slot;
+
+const CLEARED: Body = Body {
+    bytes: [0; 16],
+    mark: Mark::Cleared,
+};
 
 #[derive(Clone, Copy)]
 pub struct Log {
@@ -34,18 +41,14 @@ impl Log {
     pub fn place(&self, age: u8) -> u8
         ensures { result ≡ place_of self.now.first age }
     {
-        ((self.first as u16 + age as u16) % 8) as u8
+        ((u16::from(self.first) + u16::from(age)) % 8) as u8
     }
 
     // What stands at a place.
     pub fn slot(&self, place: u8) -> Option<Slot>
         ensures { result ≡ places_of self.now place }
     {
-        let slots: &[Option<Slot>] = &self.slots;
-        if place as usize >= slots.len() {
-            return None;
-        }
-        slots[place as usize]
+        self.slots.get(usize::from(place)).copied().flatten()
     }
 
     // The slot of an age.
@@ -55,26 +58,26 @@ impl Log {
         self.slot(self.place(age))
     }
 
+    // The first age whose place passes a test.
+    fn first_age<F: Fn(Option<Slot>) -> bool>(&self, test: F) -> Option<u8>
+        requires { F.IsAlwaysCallable test }
+        ensures { (t : ℕ → Bool) → Computes (λ age. F.post test (places_of self.now (place_of self.now.first age))) t → result ≡ least 8 t }
+    {
+        (0..8).find(|age| test(self.aged(*age)))
+    }
+
     // The age of the draft of a record.
     pub fn draft_age(&self, number: u8) -> Option<u8>
         ensures { result ≡ draft_age (places_of self.now) self.now.first number }
     {
-        for age in 0..8u8 {
-            if is_draft_of(number, self.aged(age)) {
-                return Some(age);
-            }
-        }
-        None
+        self.first_age(|slot| slot.is_some_and(|slot| is_draft_of(number, slot)))
     }
 
     // Whether there is a draft of a record.
     pub fn has_draft(&self, number: u8) -> bool
         ensures { result ≡ has_draft (places_of self.now) self.now.first number }
     {
-        match self.draft_age(number) {
-            Some(_) => true,
-            None => false,
-        }
+        self.draft_age(number).is_some()
     }
 
     // Whether the log is another user's and has a draft of a record.
@@ -88,24 +91,14 @@ impl Log {
     pub fn has_drafts(&self) -> bool
         ensures { result ≡ has_drafts (places_of self.now) self.now.first }
     {
-        for age in 0..8u8 {
-            if is_draft(self.aged(age)) {
-                return true;
-            }
-        }
-        false
+        self.first_age(|slot| slot.is_some_and(is_draft)).is_some()
     }
 
     // The first age whose place is not used.
     pub fn free_age(&self) -> Option<u8>
         ensures { result ≡ free_age (places_of self.now) self.now.first }
     {
-        for age in 0..8u8 {
-            if is_free(self.aged(age)) {
-                return Some(age);
-            }
-        }
-        None
+        self.first_age(|slot| slot.is_none())
     }
 
     // Another slot, or none, at the place of an age.
@@ -113,7 +106,7 @@ impl Log {
         ensures slots { places_of self.new ≡ put (places_of self.old) (place_of self.old.first age) slot }
         ensures first { self.new.first ≡ self.old.first }
     {
-        self.slots[self.place(age) as usize] = slot;
+        self.slots[usize::from(self.place(age))] = slot;
     }
 
     // The oldest slot leaves the log.
@@ -125,12 +118,27 @@ impl Log {
         self.first = self.place(1);
     }
 
-    // Writes bytes into the draft of a record.
-    pub fn write(&mut self, number: u8, offset: u8, bytes: &[u8])
-        ensures slots { (p : ℕ) → places_of self.new p ≡ on_some (edited_slot number (written_within offset bytes.now)) (places_of self.old p) }
+    // Changes the body of the draft of a record.
+    fn edit<F: Fn(Body) -> Body>(&mut self, number: u8, change: F)
+        requires { F.IsAlwaysCallable change }
+        ensures slots { (f : Body → Body) → Computes (F.post change) f → (p : ℕ) → places_of self.new p ≡ on_some (edited_slot number f) (places_of self.old p) }
         ensures first { self.new.first ≡ self.old.first }
     {
-        write_slots(&mut self.slots, number, offset, bytes);
+        self.slots = self.slots.map(|slot| match slot {
+            Some(draft) if is_draft_of(number, draft) => Some(Slot {
+                body: change(draft.body),
+                ..draft
+            }),
+            _ => slot,
+        });
+    }
+
+    // Writes bytes into the draft of a record.
+    pub fn write(&mut self, number: u8, patch: Patch)
+        ensures slots { (p : ℕ) → places_of self.new p ≡ on_some (edited_slot number (written_within patch.entry.offset patch.entry.bytes.now)) (places_of self.old p) }
+        ensures first { self.new.first ≡ self.old.first }
+    {
+        self.edit(number, |body| patch.applied_to(body));
     }
 
     // Clears the draft of a record.
@@ -138,7 +146,7 @@ impl Log {
         ensures slots { (p : ℕ) → places_of self.new p ≡ on_some (edited_slot number (λ b. blank)) (places_of self.old p) }
         ensures first { self.new.first ≡ self.old.first }
     {
-        clear_slots(&mut self.slots, number);
+        self.edit(number, |_| CLEARED);
     }
 
     // The drafts leave the log.
@@ -146,7 +154,7 @@ impl Log {
         ensures slots { (p : ℕ) → places_of self.new p ≡ without_draft (places_of self.old p) }
         ensures first { self.new.first ≡ self.old.first }
     {
-        remove_drafts(&mut self.slots);
+        self.slots = self.slots.map(|slot| slot.filter(|slot| !is_draft(*slot)));
     }
 
     // What a commit at a stamp makes of this log: of the drafts of `committing`, which is this log if `own`.
@@ -154,6 +162,11 @@ impl Log {
         ensures slots { (p : ℕ) → places_of self.new p ≡ on_some (settled (places_of committing.now) committing.now.first own stamp) (places_of self.old p) }
         ensures first { self.new.first ≡ self.old.first }
     {
-        settle_slots(&mut self.slots, own, committing, stamp);
+        self.slots = self.slots.map(|slot| {
+            slot.map(|slot| Slot {
+                stage: settled_stage(slot.stage, own, committing.has_draft(slot.number), stamp),
+                ..slot
+            })
+        });
     }
 }

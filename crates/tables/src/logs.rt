@@ -1,13 +1,13 @@
 // The table of the eight users' logs.
-ghost use Rattle.std.specs.Prelude.{◌≡◌, ℕ, Some, None, ◌==◌};
+ghost use Rattle.std.specs.Prelude.{◌≡◌, ℕ, Some, None, ◌==◌, slice_index_or};
 ghost use Rattle.model.specs.Tools.{put, on_some};
 ghost use Rattle.model.specs.Worlds.{blank, put_slot};
-ghost use Rattle.model.specs.Versions.{place_of, slot_shows};
+ghost use Rattle.model.specs.Versions.{place_of};
 ghost use Rattle.model.specs.Drafts.{draft_age, has_draft, has_drafts, locked_by_other, free_age, edited, undrafted, settled};
-ghost use Rattle.order.specs.declared.candidate.Place.TheVariants.{Slot as SlotPlace};
-ghost use Rattle.tables.specs.View.{slots_of, oldest_of, written_within};
+ghost use Rattle.tables.specs.View.{slots_of, oldest_of, no_log, written_within};
 
 use crate::log::Log;
+use crate::patch::Patch;
 use crate::user::User;
 use model::slot::Slot;
 
@@ -31,76 +31,69 @@ impl Logs {
     pub fn place(&self, user: User, age: u8) -> u8
         ensures { result ≡ place_of (oldest_of self.now user.number) age }
     {
-        self.all[user.number() as usize].place(age)
+        self.of(user).place(age)
     }
 
     // The same of a log by its number; of an empty log behind the last.
     pub fn place_in(&self, user: u8, age: u8) -> u8
         ensures { result ≡ place_of (oldest_of self.now user) age }
     {
-        let all: &[Log] = &self.all;
-        if user as usize >= all.len() {
-            return age % 8;
-        }
-        all[user as usize].place(age)
+        self.all
+            .get(usize::from(user))
+            .map_or(age % 8, |log| log.place(age))
     }
 
     // What stands at a place of a log; nothing behind the last log.
     pub fn slot(&self, user: u8, place: u8) -> Option<Slot>
         ensures { result ≡ slots_of self.now user place }
     {
-        let all: &[Log] = &self.all;
-        if user as usize >= all.len() {
-            return None;
-        }
-        all[user as usize].slot(place)
+        self.all.get(usize::from(user))?.slot(place)
     }
 
     // The slot of an age in a log.
     pub fn aged(&self, user: User, age: u8) -> Option<Slot>
         ensures { result ≡ slots_of self.now user.number (place_of (oldest_of self.now user.number) age) }
     {
-        self.all[user.number() as usize].aged(age)
+        self.of(user).aged(age)
     }
 
     // The age of the user's draft of a record.
     pub fn draft_age(&self, user: User, number: u8) -> Option<u8>
         ensures { result ≡ draft_age (slots_of self.now user.number) (oldest_of self.now user.number) number }
     {
-        self.all[user.number() as usize].draft_age(number)
+        self.of(user).draft_age(number)
     }
 
     // Whether the user has a draft of a record.
     pub fn has_draft(&self, user: User, number: u8) -> bool
         ensures { result ≡ has_draft (slots_of self.now user.number) (oldest_of self.now user.number) number }
     {
-        self.all[user.number() as usize].has_draft(number)
+        self.of(user).has_draft(number)
     }
 
     // Whether the user has any draft.
     pub fn has_drafts(&self, user: User) -> bool
         ensures { result ≡ has_drafts (slots_of self.now user.number) (oldest_of self.now user.number) }
     {
-        self.all[user.number() as usize].has_drafts()
+        self.of(user).has_drafts()
     }
 
     // Whether another user has a draft of a record.
     pub fn locked_by_other(&self, user: User, number: u8) -> bool
         ensures { result ≡ locked_by_other (slots_of self.now) (oldest_of self.now) user.number number }
     {
-        for other in 0..8u8 {
-            if self.all[other as usize].locks(other != user.number(), number) {
-                return true;
-            }
-        }
-        false
+        let own = usize::from(user);
+        self.all
+            .iter()
+            .enumerate()
+            .any(|(other, log)| log.locks(other != own, number))
     }
 
     // The first age whose place is not used in the user's log.
     pub fn free_age(&self, user: User) -> Option<u8>
         ensures { result ≡ free_age (slots_of self.now user.number) (oldest_of self.now user.number) }
     {
-        self.all[user.number() as usize].free_age()
+        self.of(user).free_age()
     }
 
     // Another slot at the place of an age in the user's log.
@@ -108,7 +101,7 @@ impl Logs {
         ensures slots { slots_of self.new ≡ put_slot (slots_of self.old) user.number (place_of (oldest_of self.old user.number) age) (Some slot) }
         ensures oldest { oldest_of self.new ≡ oldest_of self.old }
     {
-        self.all[user.number() as usize].set(age, Some(slot));
+        self.all[usize::from(user)].set(age, Some(slot));
     }
 
     // The oldest slot leaves the user's log.
@@ -116,15 +109,15 @@ impl Logs {
         ensures slots { slots_of self.new ≡ put_slot (slots_of self.old) user.number (place_of (oldest_of self.old user.number) 0) None }
         ensures oldest { oldest_of self.new ≡ put (oldest_of self.old) user.number (place_of (oldest_of self.old user.number) 1) }
     {
-        self.all[user.number() as usize].free_oldest();
+        self.all[usize::from(user)].free_oldest();
     }
 
     // Writes bytes into the user's draft of a record.
-    pub fn write(&mut self, user: User, number: u8, offset: u8, bytes: &[u8])
-        ensures slots { (o p : ℕ) → slots_of self.new o p ≡ on_some (edited user.number number (written_within offset bytes.now) o) (slots_of self.old o p) }
+    pub fn write(&mut self, user: User, number: u8, patch: Patch)
+        ensures slots { (o p : ℕ) → slots_of self.new o p ≡ on_some (edited user.number number (written_within patch.entry.offset patch.entry.bytes.now) o) (slots_of self.old o p) }
         ensures oldest { oldest_of self.new ≡ oldest_of self.old }
     {
-        self.all[user.number() as usize].write(number, offset, bytes);
+        self.all[usize::from(user)].write(number, patch);
     }
 
     // Clears the user's draft of a record.
@@ -132,7 +125,7 @@ impl Logs {
         ensures slots { (o p : ℕ) → slots_of self.new o p ≡ on_some (edited user.number number (λ b. blank) o) (slots_of self.old o p) }
         ensures oldest { oldest_of self.new ≡ oldest_of self.old }
     {
-        self.all[user.number() as usize].clear(number);
+        self.all[usize::from(user)].clear(number);
     }
 
     // The user's drafts leave its log.
@@ -140,7 +133,7 @@ impl Logs {
         ensures slots { (o p : ℕ) → slots_of self.new o p ≡ undrafted user.number o (slots_of self.old o p) }
         ensures oldest { oldest_of self.new ≡ oldest_of self.old }
     {
-        self.all[user.number() as usize].remove_drafts();
+        self.all[usize::from(user)].remove_drafts();
     }
 
     // A commit at a stamp: the user's drafts go live, and the live slots of their records retire.
@@ -148,9 +141,17 @@ impl Logs {
         ensures slots { (o p : ℕ) → slots_of self.new o p ≡ on_some (settled (slots_of self.old user.number) (oldest_of self.old user.number) (o == user.number) stamp) (slots_of self.old o p) }
         ensures oldest { (o : ℕ) → oldest_of self.new o ≡ oldest_of self.old o }
     {
-        let committing = self.all[user.number() as usize];
-        for other in 0..8u8 {
-            self.all[other as usize].settle(other == user.number(), &committing, stamp);
+        let own = usize::from(user);
+        let committing = *self.of(user);
+        for (other, log) in self.all.iter_mut().enumerate() {
+            log.settle(other == own, &committing, stamp);
         }
+    }
+
+    // The user's log, to read. What changes it indexes the table: of an array's element that is lent as `&mut` no later value is known.
+    fn of(&self, user: User) -> &Log
+        ensures { result.now ≡ slice_index_or self.now.all user.number no_log }
+    {
+        &self.all[usize::from(user)]
     }
 }

@@ -1,11 +1,10 @@
 use Rattle.std.proofs.Common.{[], ◌∷◌, ◌++◌, None, Option, sym, ap, ◌∙◌, rules}
 use Rattle.std.specs.List.{range_with_len, flat_map}
 use Rattle.order.specs.Order.{pick}
-use Rattle.order.specs.Kinds.{CandidateBefore, candidate_test}
-use Rattle.order.specs.contracts.candidate.CandidateRanked.TheImpl.Laws.{total-law}
+use Rattle.order.specs.Kinds.{candidate_test}
 use Rattle.order.specs.declared.candidate.Candidate.{Candidate}
 use Rattle.order.specs.declared.candidate.Place.TheVariants.{Master}
-use Rattle.order.proofs.Picks.{candidate_picked, candidate_decides, candidate_transitive}
+use Rattle.order.proofs.Picks.{candidate_picked, candidates}
 use Rattle.model.specs.declared.slot.Master.{Master as MasterRow}
 use Rattle.model.specs.Versions.{if_within, foremost}
 use Rattle.tables.specs.View.{slots_of, oldest_of}
@@ -24,5 +23,5 @@ returns c =
     let master = c.if_within-master.ensures ∙ ap (λ (m : MasterRow). if_within c.args.limit m.version Master) c.get.ensures in
     sym (candidate_picked _ _ c.foremost-2.ensures)
     ∙ ap (λ (o : Option Candidate). pick candidate_test (o ∷ c.if_within-master.result ∷ [])) logs
-    ∙ pick_parts CandidateBefore candidate_test candidate_decides candidate_transitive total-law rows users c.if_within-master.result
+    ∙ pick_parts candidates rows users c.if_within-master.result
     ∙ ap (λ (o : Option Candidate). pick candidate_test (flat_map rows users ++ o ∷ [])) master
