@@ -4,7 +4,7 @@ ghost use Rattle.std.specs.Prelude.{◌<◌};
 use model::door::Door;
 use model::refusal::Refusal;
 
-// A type of its own beside `HoldNumber`, and no one type with the bound as its parameter: ages and
+// A type of its own beside `HoldNumber`, not one type with the bound as its parameter: ages and
 // places of a log are below eight too, and are no users.
 #[derive(Clone, Copy)]
 pub struct User {
@@ -27,6 +27,7 @@ impl User {
         }
     }
 
+    // The number by which others name the user; a place in a table is made by `usize::from`.
     pub fn number(self) -> u8
         ensures { result ≡ self.number }
     {
