@@ -1,4 +1,5 @@
 // The allowance and the side-by-side home.
+use crate::refused;
 use homes::allowance::Allowance;
 use homes::plain::Plain;
 use homes::side_by_side::SideBySide;
@@ -21,27 +22,18 @@ fn three_beside_a_spent_allowance_over_three(rt: HostRuntime) {
     assert_eq!(rt; home.count(), 6);
     assert_eq!(rt; home.write(5, [1; 16]), Err(fault));
     assert_eq!(rt; home.write(2, [1; 16]), Ok(()));
-    assert_eq!(rt; home.write(6, [1; 16]), Err(Fault::new(Cause::Outside, 6)));
+    assert_eq!(rt; home.write(6, [1; 16]), refused(Cause::Outside, 6));
 }
 
 #[test]
 fn allowance_of_one(rt: HostRuntime) {
     let mut home = Allowance::new(WriteOnce::new(), 1);
-    assert_eq!(rt;
-        home.write(64, [1; 16]),
-        Err(Fault::new(Cause::Outside, 64))
-    );
+    assert_eq!(rt; home.write(64, [1; 16]), refused(Cause::Outside, 64));
     assert_eq!(rt; home.writes_left(), 1);
     assert_eq!(rt; home.write(5, [1; 16]), Ok(()));
     assert_eq!(rt; home.writes_left(), 0);
-    assert_eq!(rt;
-        home.write(6, [2; 16]),
-        Err(Fault::new(Cause::AllowanceSpent, 6))
-    );
-    assert_eq!(rt;
-        home.write(64, [2; 16]),
-        Err(Fault::new(Cause::Outside, 64))
-    );
+    assert_eq!(rt; home.write(6, [2; 16]), refused(Cause::AllowanceSpent, 6));
+    assert_eq!(rt; home.write(64, [2; 16]), refused(Cause::Outside, 64));
     let mut place = [0; 16];
     assert_eq!(rt; home.read(5, &mut place), Ok(()));
     assert_eq!(rt; place, [1; 16]);
@@ -69,7 +61,7 @@ fn counts_above_65535(rt: HostRuntime) -> Result<(), Fail> {
     assert_eq!(rt; home.write(65_534, [1; 16]), Ok(()));
     assert_eq!(rt;
         home.write(65_535, [2; 16]),
-        Err(Fault::new(Cause::Outside, 65_535))
+        refused(Cause::Outside, 65_535)
     );
     Ok(())
 }

@@ -1,7 +1,8 @@
 // The plain and the write-once home.
+use crate::refused;
 use homes::plain::Plain;
 use homes::write_once::WriteOnce;
-use interfaces::fault::{Cause, Fault};
+use interfaces::fault::Cause;
 use interfaces::home::Home;
 use std::test::Fail;
 
@@ -10,11 +11,10 @@ fn empty_home(rt: HostRuntime) {
     let mut bytes = [0; 15];
     let mut home = Plain::new(&mut bytes);
     let mut place = [9; 16];
-    let outside = Fault::new(Cause::Outside, 0);
     assert_eq!(rt; home.count(), 0);
-    assert_eq!(rt; home.read(0, &mut place), Err(outside));
+    assert_eq!(rt; home.read(0, &mut place), refused(Cause::Outside, 0));
     assert_eq!(rt; place, [9; 16]);
-    assert_eq!(rt; home.write(0, [1; 16]), Err(outside));
+    assert_eq!(rt; home.write(0, [1; 16]), refused(Cause::Outside, 0));
 }
 
 #[test]
@@ -26,7 +26,7 @@ fn records_65534_and_65535(rt: HostRuntime) -> Result<(), Fail> {
         assert_eq!(rt; home.write(65_534, [1; 16]), Ok(()));
         assert_eq!(rt;
             home.write(65_535, [2; 16]),
-            Err(Fault::new(Cause::Outside, 65_535))
+            refused(Cause::Outside, 65_535)
         );
         let mut place = [0; 16];
         assert_eq!(rt; home.read(65_534, &mut place), Ok(()));
@@ -47,14 +47,8 @@ fn one_write_each(rt: HostRuntime) {
     assert_eq!(rt; home.read(63, &mut place), Ok(()));
     assert_eq!(rt; place, [255; 16]);
     assert_eq!(rt; home.write(63, [1; 16]), Ok(()));
-    assert_eq!(rt;
-        home.write(63, [2; 16]),
-        Err(Fault::new(Cause::AlreadyWritten, 63))
-    );
-    assert_eq!(rt;
-        home.write(64, [3; 16]),
-        Err(Fault::new(Cause::Outside, 64))
-    );
+    assert_eq!(rt; home.write(63, [2; 16]), refused(Cause::AlreadyWritten, 63));
+    assert_eq!(rt; home.write(64, [3; 16]), refused(Cause::Outside, 64));
     assert_eq!(rt; home.write(62, [4; 16]), Ok(()));
     assert_eq!(rt; home.read(63, &mut place), Ok(()));
     assert_eq!(rt; place, [1; 16]);
