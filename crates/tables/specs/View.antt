@@ -72,6 +72,16 @@ edited_slot r f sl = cond (draft_of r (Some sl)) (record { number = sl.number; b
 abbrev pub without_draft : Option Slot → Option Slot
 without_draft s = cond (any_draft s) None s
 
+-- each slot of a log was changed by f, and its oldest slot stands where it stood
+pub record EachSlot (f : Option Slot → Option Slot) (old new : Log) : Type 0 where
+  pub slots : (p : ℕ) → places_of new p ≡ f (places_of old p)
+  pub first : new.first ≡ old.first
+
+-- the same of all logs, where f is told whose log it is
+pub record EachSlotOf (f : ℕ → Option Slot → Option Slot) (old new : Logs) : Type 0 where
+  pub slots : (o p : ℕ) → slots_of new o p ≡ f o (slots_of old o p)
+  pub oldest : oldest_of new ≡ oldest_of old
+
 -- new bytes where they fit into the sixteen
 abbrev pub written_within : ℕ → List ℕ → Body → Body
 written_within offset new b = cond (nat_le (offset + length new) 16) (w.written offset new b) b

@@ -6,7 +6,7 @@ ghost use Rattle.model.specs.Versions.{place_of};
 ghost use Rattle.model.specs.Drafts.{draft_age, has_draft, has_drafts, free_age, settled};
 ghost use Rattle.model.specs.declared.body.Body.{Body};
 ghost use Rattle.tables.specs.Closures.{Computes};
-ghost use Rattle.tables.specs.View.{places_of, edited_slot, without_draft, written_within};
+ghost use Rattle.tables.specs.View.{places_of, EachSlot, edited_slot, without_draft, written_within};
 
 use crate::patch::Patch;
 use crate::stage::{is_draft, is_draft_of, settled_stage};
@@ -121,8 +121,7 @@ impl Log {
     // Changes the body of the draft of a record.
     fn edit<F: Fn(Body) -> Body>(&mut self, number: u8, change: F)
         requires { F.IsAlwaysCallable change }
-        ensures slots { (f : Body → Body) → Computes (F.post change) f → (p : ℕ) → places_of self.new p ≡ on_some (edited_slot number f) (places_of self.old p) }
-        ensures first { self.new.first ≡ self.old.first }
+        ensures { (f : Body → Body) → Computes (F.post change) f → EachSlot (on_some (edited_slot number f)) self.old self.new }
     {
         self.slots = self.slots.map(|slot| match slot {
             Some(draft) if is_draft_of(number, draft) => Some(Slot {
@@ -135,32 +134,28 @@ impl Log {
 
     // Writes bytes into the draft of a record.
     pub fn write(&mut self, number: u8, patch: Patch)
-        ensures slots { (p : ℕ) → places_of self.new p ≡ on_some (edited_slot number (written_within patch.entry.offset patch.entry.bytes.now)) (places_of self.old p) }
-        ensures first { self.new.first ≡ self.old.first }
+        ensures { EachSlot (on_some (edited_slot number (written_within patch.entry.offset patch.entry.bytes.now))) self.old self.new }
     {
         self.edit(number, |body| patch.applied_to(body));
     }
 
     // Clears the draft of a record.
     pub fn clear(&mut self, number: u8)
-        ensures slots { (p : ℕ) → places_of self.new p ≡ on_some (edited_slot number (λ b. blank)) (places_of self.old p) }
-        ensures first { self.new.first ≡ self.old.first }
+        ensures { EachSlot (on_some (edited_slot number (λ b. blank))) self.old self.new }
     {
         self.edit(number, |_| CLEARED);
     }
 
     // The drafts leave the log.
     pub fn remove_drafts(&mut self)
-        ensures slots { (p : ℕ) → places_of self.new p ≡ without_draft (places_of self.old p) }
-        ensures first { self.new.first ≡ self.old.first }
+        ensures { EachSlot without_draft self.old self.new }
     {
         self.slots = self.slots.map(|slot| slot.filter(|slot| !is_draft(*slot)));
     }
 
     // What a commit at a stamp makes of this log: of the drafts of `committing`, which is this log if `own`.
     pub fn settle(&mut self, own: bool, committing: &Log, stamp: u64)
-        ensures slots { (p : ℕ) → places_of self.new p ≡ on_some (settled (places_of committing.now) committing.now.first own stamp) (places_of self.old p) }
-        ensures first { self.new.first ≡ self.old.first }
+        ensures { EachSlot (on_some (settled (places_of committing.now) committing.now.first own stamp)) self.old self.new }
     {
         self.slots = self.slots.map(|slot| {
             slot.map(|slot| Slot {

@@ -4,7 +4,7 @@ ghost use Rattle.model.specs.Tools.{put, on_some};
 ghost use Rattle.model.specs.Worlds.{blank, put_slot};
 ghost use Rattle.model.specs.Versions.{place_of};
 ghost use Rattle.model.specs.Drafts.{draft_age, has_draft, has_drafts, locked_by_other, free_age, edited, undrafted, settled};
-ghost use Rattle.tables.specs.View.{slots_of, oldest_of, no_log, written_within};
+ghost use Rattle.tables.specs.View.{slots_of, oldest_of, EachSlotOf, no_log, written_within};
 
 use crate::log::Log;
 use crate::patch::Patch;
@@ -114,24 +114,21 @@ impl Logs {
 
     // Writes bytes into the user's draft of a record.
     pub fn write(&mut self, user: User, number: u8, patch: Patch)
-        ensures slots { (o p : ℕ) → slots_of self.new o p ≡ on_some (edited user.number number (written_within patch.entry.offset patch.entry.bytes.now) o) (slots_of self.old o p) }
-        ensures oldest { oldest_of self.new ≡ oldest_of self.old }
+        ensures { EachSlotOf (λ o. on_some (edited user.number number (written_within patch.entry.offset patch.entry.bytes.now) o)) self.old self.new }
     {
         self.all[usize::from(user)].write(number, patch);
     }
 
     // Clears the user's draft of a record.
     pub fn clear(&mut self, user: User, number: u8)
-        ensures slots { (o p : ℕ) → slots_of self.new o p ≡ on_some (edited user.number number (λ b. blank) o) (slots_of self.old o p) }
-        ensures oldest { oldest_of self.new ≡ oldest_of self.old }
+        ensures { EachSlotOf (λ o. on_some (edited user.number number (λ b. blank) o)) self.old self.new }
     {
         self.all[usize::from(user)].clear(number);
     }
 
     // The user's drafts leave its log.
     pub fn remove_drafts(&mut self, user: User)
-        ensures slots { (o p : ℕ) → slots_of self.new o p ≡ undrafted user.number o (slots_of self.old o p) }
-        ensures oldest { oldest_of self.new ≡ oldest_of self.old }
+        ensures { EachSlotOf (undrafted user.number) self.old self.new }
     {
         self.all[usize::from(user)].remove_drafts();
     }
