@@ -29,6 +29,9 @@ length_bodies bytes = length-first_chunks 16 _ bytes
 pub few_bodies : (bytes : List ℕ) → length (bodies_of bytes) ≤ 65535
 few_bodies bytes = omega (arith, length_bodies bytes)
 
+pub body_within : (bytes : List ℕ) (k : ℕ) → k < length (bodies_of bytes) → k * 16 + 16 ≤ length bytes
+body_within bytes k h = omega (arith, length_bodies bytes)
+
 pub get_or_bodies : (bytes : List ℕ) (k : ℕ) (d : List ℕ) → k < length (bodies_of bytes) → slice_index_or (bodies_of bytes) k d ≡ between (k * 16) (k * 16 + 16) bytes
 unfolding bodies_of
 get_or_bodies bytes k d h = get_or-first_chunks 16 _ bytes k d (omega (arith, length_bodies bytes))

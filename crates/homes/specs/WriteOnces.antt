@@ -6,6 +6,7 @@ use Rattle.std.proofs.lemmas.List.{length-map, get_or-map}
 use Rattle.interfaces.specs.declared.fault.Cause.TheVariants.{AlreadyWritten}
 use Rattle.interfaces.specs.Faults.{arisen}
 use Rattle.interfaces.specs.Homes.{Meaning, WellFormed}
+use Rattle.homes.specs.Bodies.{bodies_of, few_bodies, sixteen_bodies}
 
 -- which records have had their write, after those of h have had theirs
 abbrev pub used_after : List Bool → List ℕ → List Bool
@@ -18,6 +19,10 @@ once bodies used = record {
   bodies = bodies;
   verdict = λ h k. cond (slice_index_or (used_after used h) k false) (Some (arisen AlreadyWritten k)) None;
 }
+
+-- it is well formed where the bodies are cut out of a row of bytes
+pub once_sound : (bytes : List ℕ) (used : List Bool) → WellFormed (once (bodies_of bytes) used)
+once_sound bytes used = record { few = few_bodies bytes; sixteen = sixteen_bodies bytes }
 
 -- what a record holds, from what was written to it: sixteen bytes, all 255 before its write; `refill` makes it sixteen
 -- whatever list stands there, and changes none of sixteen
@@ -42,9 +47,9 @@ pub length_held : (records : List (Option (List ℕ))) → length (held records)
 unfolding held
 length_held records = length-map (refill 64 (replicate 64 None) records) body_of ∙ sym (length_refill 64 (replicate 64 None) records refl)
 
-pub once_sound : (records : List (Option (List ℕ))) → WellFormed (once_of records)
+pub once_of_sound : (records : List (Option (List ℕ))) → WellFormed (once_of records)
 unfolding held
-once_sound records = record {
+once_of_sound records = record {
   few = omega (arith, length_held records);
   sixteen = λ k h.
       let rs = refill 64 (replicate 64 None) records in

@@ -1,6 +1,6 @@
 // A home with 64 records of its own, each of which takes one write.
 ghost use Rattle.std.specs.Prelude.{◌≡◌};
-ghost use Rattle.homes.specs.WriteOnces.{once_of, once_new, once_sound};
+ghost use Rattle.homes.specs.WriteOnces.{once_of, once_new, once_of_sound};
 
 use interfaces::fault::{Cause, Fault};
 use interfaces::home::Home;
@@ -26,7 +26,7 @@ impl WriteOnce {
 impl Home for WriteOnce {
     ghost meaning = { λ s. once_of s.records };
 
-    ghost sound = { λ s. once_sound s.records };
+    ghost sound = { λ s. once_of_sound s.records };
 
     fn count(&self) -> u16 {
         self.records.len() as u16
