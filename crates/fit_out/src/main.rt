@@ -32,6 +32,7 @@ fn load_lines(rt: &HostRuntime, session: &mut Session<Memory<'_>>) -> io::Result
 // Prints what each loaded record holds.
 fn print_table(rt: &HostRuntime, session: &mut Session<Memory<'_>>) -> io::Result<()> {
     println!(rt; "loaded records:")?;
+    // by the number of each record that a home can have: a session has no list of those that were loaded
     for record in 0..u16::MAX {
         if let Some(body) = session.row(record) {
             let entry = Entry { record, body };

@@ -1,4 +1,4 @@
-// A user's log: eight slots, used as a ring.
+// A user's log: eight slots, used as a ring; a fixed table, since a store takes no heap.
 ghost use Rattle.std.specs.Prelude.{◌≡◌, ℕ, ◌&&◌, Bool, None};
 ghost use Rattle.model.specs.Tools.{put, on_some, least};
 ghost use Rattle.model.specs.Worlds.{blank};

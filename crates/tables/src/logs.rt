@@ -11,6 +11,7 @@ use crate::patch::Patch;
 use crate::user::User;
 use model::slot::Slot;
 
+// Clauses name a log's slots and the place of its oldest apart, as the definitions of the model take them.
 #[derive(Drop)]
 pub struct Logs {
     all: [Log; 8],
