@@ -9,9 +9,6 @@ pub trait Home {
     // What the home holds, and which writes it takes, now and after any further accepted ones.
     ghost meaning: { Self → Meaning };
 
-    // At most 65,535 records of sixteen bytes each.
-    ghost sound: { (s : Self) → WellFormed (meaning s) };
-
     // How many records there are.
     fn count(&self) -> u16
         ensures { result ≡ length (meaning self.now).bodies };
@@ -36,4 +33,7 @@ pub trait Home {
         }
         Ok(())
     }
+
+    // At most 65,535 records of sixteen bytes each.
+    ghost sound: { (s : Self) → WellFormed (meaning s) };
 }

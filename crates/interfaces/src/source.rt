@@ -10,9 +10,6 @@ pub trait Source {
     // The highest stamp given so far.
     ghost highest: { Self → ℕ };
 
-    // It is at most 2^64 - 1.
-    ghost bounded: { (s : Self) → highest s ≤ top };
-
     fn highest(&self) -> u64
         ensures { result ≡ highest self.now };
 
@@ -23,4 +20,7 @@ pub trait Source {
     // A stamp above the highest, for a tick.
     fn next(&mut self, tick: u64) -> Result<u64, StampsSpent>
         ensures { Drawn (highest self.old) result (highest self.new) };
+
+    // It is at most 2^64 - 1.
+    ghost bounded: { (s : Self) → highest s ≤ top };
 }
