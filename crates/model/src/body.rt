@@ -7,6 +7,7 @@ pub enum Mark {
     Cleared,
 }
 
+// Bytes and mark stand apart, as the definitions under the laws have them.
 #[derive(Clone, Copy, PartialEq, Eq, Debug)]
 pub struct Body {
     pub bytes: [u8; 16],

@@ -27,7 +27,8 @@ pub struct Master {
     pub mark: Mark,
 }
 
-// What a hold of a section is on: a place, so it shows what stands there now.
+// What a hold of a section is on: a place, so it shows what stands there now, and no reference, since the tables are fixed. Its three
+// cases are those of the definitions under the laws.
 #[derive(Clone, Copy, PartialEq, Eq, Debug)]
 pub enum Hold {
     Unset,

@@ -5,7 +5,7 @@ ghost use Rattle.std.proofs.Common.{rules};
 use crate::ranked::Ranked;
 use std::cmp::Reverse;
 
-// The master first, then the lower user, then the lower age.
+// The master first, then the lower user, then the lower age. Its two cases are those of the definitions under the laws.
 #[derive(Clone, Copy, PartialEq, Eq, PartialOrd, Ord, Debug)]
 pub enum Place {
     Master,
