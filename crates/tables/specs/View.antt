@@ -6,7 +6,7 @@ use Rattle.model.specs.declared.slot.Slot.{Slot}
 use Rattle.model.specs.declared.slot.Hold.{Hold}
 use Rattle.model.specs.declared.slot.Hold.TheVariants.{Unset}
 use Rattle.model.specs.declared.slot.Master.{Master}
-use Rattle.model.specs.Tools.{put, is_some}
+use Rattle.model.specs.Tools.{put, on_some, is_some}
 use Rattle.model.specs.declared.body.Body.{Body}
 use Rattle.model.specs.Drafts.{any_draft, draft_of}
 use Rattle.model.specs.Worlds as w
@@ -17,29 +17,27 @@ use Rattle.tables.specs.declared.log.Log.{Log}
 use Rattle.tables.specs.declared.logs.Logs.{Logs}
 use Rattle.tables.specs.declared.masters.Masters.{Masters}
 
--- Sections.
+-- Sections: those that are open, and those of all users.
 
 abbrev pub holds_of : Section → ℕ → Hold
 holds_of s i = slice_index_or s.holds i Unset
 
-abbrev pub opened_with : (ℕ → Hold) → Option ℕ → Option w.Section
-opened_with holds None = None
-opened_with holds (Some stamp) = Some (record { opening = stamp; hold = holds })
-
-abbrev pub section_of : Section → Option w.Section
-section_of s = opened_with (holds_of s) s.opening
+abbrev pub section_of : Section → w.Section
+section_of s = record { opening = s.opening; hold = holds_of s }
 
 abbrev pub with_hold : ℕ → Hold → w.Section → w.Section
 with_hold i on s = record { opening = s.opening; hold = put s.hold i on }
 
-abbrev pub no_section : Section
-no_section = record { opening = None; holds = [] }
-
 abbrev pub sections_of : Sections → ℕ → Option w.Section
-sections_of t u = section_of (slice_index_or t.all u no_section)
+sections_of t u = on_some section_of (slice_index_or t.all u None)
+
+-- what the holds are on, if the section is open
+abbrev pub holds_if : Option Section → ℕ → Hold
+holds_if None i = Unset
+holds_if (Some s) i = holds_of s i
 
 abbrev pub holds_at : Sections → ℕ → ℕ → Hold
-holds_at t u = holds_of (slice_index_or t.all u no_section)
+holds_at t u = holds_if (slice_index_or t.all u None)
 
 -- the opening stamp of u's section, or refused
 abbrev pub Opened : Sections → ℕ → Result ℕ Refusal → Type 0

@@ -17,6 +17,7 @@ use order::candidate::{Candidate, Place};
 use order::ranked::foremost;
 use std::array::from_fn;
 
+// A table each for sections and logs, both by user: what a call does not touch is the same field in the proof.
 #[derive(Drop)]
 pub struct Inner {
     pub sections: Sections,

@@ -18,6 +18,7 @@ const CLEARED: Body = Body {
     mark: Mark::Cleared,
 };
 
+// Clauses name the slots and the oldest place apart, as the definitions of the model take them.
 #[derive(Clone, Copy)]
 pub struct Log {
     slots: [Option<Slot>; 8],

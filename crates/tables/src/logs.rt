@@ -1,5 +1,5 @@
 // The table of the eight users' logs.
-ghost use Rattle.std.specs.Prelude.{◌≡◌, ℕ, Some, None, ◌==◌, slice_index_or};
+ghost use Rattle.std.specs.Prelude.{◌≡◌, Some, None, ◌==◌, slice_index_or};
 ghost use Rattle.model.specs.Tools.{put, on_some};
 ghost use Rattle.model.specs.Worlds.{blank, put_slot};
 ghost use Rattle.model.specs.Versions.{place_of};
@@ -11,7 +11,7 @@ use crate::patch::Patch;
 use crate::user::User;
 use model::slot::Slot;
 
-// Clauses name a log's slots and the place of its oldest apart, as the definitions of the model take them.
+// Clauses name a log's slots and the place of its oldest apart, and a slot by its user and an age or a place, as the definitions of the model take them.
 #[derive(Drop)]
 pub struct Logs {
     all: [Log; 8],
@@ -32,7 +32,7 @@ impl Logs {
     pub fn place(&self, user: User, age: u8) -> u8
         ensures { result ≡ place_of (oldest_of self.now user.number) age }
     {
-        self.of(user).place(age)
+        self.place_in(user.number(), age)
     }
 
     // The same of a log by its number; of an empty log behind the last.
@@ -136,8 +136,7 @@ impl Logs {
 
     // A commit at a stamp: the user's drafts go live, and the live slots of their records retire.
     pub fn settle(&mut self, user: User, stamp: u64)
-        ensures slots { (o p : ℕ) → slots_of self.new o p ≡ on_some (settled (slots_of self.old user.number) (oldest_of self.old user.number) (o == user.number) stamp) (slots_of self.old o p) }
-        ensures oldest { (o : ℕ) → oldest_of self.new o ≡ oldest_of self.old o }
+        ensures { EachSlotOf (λ o. on_some (settled (slots_of self.old user.number) (oldest_of self.old user.number) (o == user.number) stamp)) self.old self.new }
     {
         let own = usize::from(user);
         let committing = *self.of(user);

@@ -17,6 +17,7 @@ impl Patch<'_> {
     {
         let start = usize::from(self.offset);
         let end = start + self.bytes.len();
+        // by index: of a write through `get_mut` a proof knows only that the length stays
         if end > body.bytes.len() {
             return body;
         }

@@ -16,7 +16,8 @@ use std::array::from_fn;
 
 #[derive(Drop)]
 pub struct Sections {
-    all: [Section; 8],
+    // none for a section that is closed
+    all: [Option<Section>; 8],
 }
 
 impl Sections {
@@ -24,52 +25,52 @@ impl Sections {
     pub fn new() -> Sections
         ensures { sections_of result ≡ (λ u. None) }
     {
-        Sections {
-            all: [Section::new(); 8],
-        }
+        Sections { all: [None; 8] }
     }
 
     // The opening stamp of the user's section; refused if it is closed.
     pub fn opening(&self, user: User) -> Result<u64, Refusal>
         ensures { Opened self.now user.number result }
     {
-        self.all[usize::from(user)]
-            .opening()
-            .ok_or(Refusal::NotOpen)
+        let section = self.all[usize::from(user)].ok_or(Refusal::NotOpen)?;
+        Ok(section.opening)
     }
 
     // Refused if the user's section is open.
     pub fn closed(&self, user: User) -> Result<(), Refusal>
         ensures { Closed self.now user.number result }
     {
-        if self.all[usize::from(user)].opening().is_some() {
+        if self.all[usize::from(user)].is_some() {
             return Err(Refusal::AlreadyOpen);
         }
         Ok(())
     }
 
+    // What a hold is on; unset in a closed section.
     pub fn hold(&self, user: User, hold: HoldNumber) -> Hold
         ensures { result ≡ holds_at self.now user.number hold.number }
     {
-        self.all[usize::from(user)].hold(hold)
+        self.all[usize::from(user)].map_or(Hold::Unset, |section| section.hold(hold))
     }
 
     pub fn open(&mut self, user: User, stamp: u64)
         ensures { sections_of self.new ≡ put (sections_of self.old) user.number (Some (fresh stamp)) }
     {
-        self.all[usize::from(user)].open(stamp);
+        self.all[usize::from(user)] = Some(Section::new(stamp));
     }
 
     pub fn close(&mut self, user: User)
         ensures { sections_of self.new ≡ put (sections_of self.old) user.number None }
     {
-        self.all[usize::from(user)].close();
+        self.all[usize::from(user)] = None;
     }
 
+    // One hold of the section is on something else, if it is open.
     pub fn set_hold(&mut self, user: User, hold: HoldNumber, on: Hold)
         ensures { sections_of self.new ≡ put (sections_of self.old) user.number (on_some (with_hold hold.number on) (sections_of self.old user.number)) }
     {
-        self.all[usize::from(user)].set_hold(hold, on);
+        let own = usize::from(user);
+        self.all[own] = self.all[own].map(|section| section.with_hold(hold, on));
     }
 
     // The open section with the lowest opening stamp.
@@ -84,7 +85,10 @@ impl Sections {
     fn opened(&self, user: u8) -> Option<OpenSection>
         ensures { result ≡ opened_as user (sections_of self.now user) }
     {
-        let stamp = self.all.get(usize::from(user))?.opening()?;
-        Some(OpenSection { stamp, user })
+        let section = (*self.all.get(usize::from(user))?)?;
+        Some(OpenSection {
+            stamp: section.opening,
+            user,
+        })
     }
 }
