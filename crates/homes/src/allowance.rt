@@ -59,11 +59,12 @@ impl<H: Home> Home for Allowance<H> {
         ensures writes { self.new.writes_left ≡ writes_after result self.old.writes_left }
     {
         self.inside(number)?;
-        if self.writes_left == 0 {
-            return Err(Fault::new(Cause::AllowanceSpent, number));
-        }
+        let left = self
+            .writes_left
+            .checked_sub(1)
+            .ok_or(Fault::new(Cause::AllowanceSpent, number))?;
         passed_up(self.below.write(number, body))?;
-        self.writes_left -= 1;
+        self.writes_left = left;
         Ok(())
     }
 }

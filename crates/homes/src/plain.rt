@@ -8,6 +8,8 @@ ghost use Rattle.homes.specs.Plains.{plain, plain_sound, bytes_after};
 use interfaces::fault::Fault;
 use interfaces::home::Home;
 
+// Each call says that its row is still the lender's: a fact of the values before and after it, and a ghost field
+// speaks of one value.
 #[derive(Drop)]
 pub struct Plain<'a> {
     bytes: &'a mut [u8],
@@ -28,7 +30,7 @@ impl<'a> Plain<'a> {
         requires { number < length (bodies_of self.now.bytes.now) }
         ensures { result ≡ slice_index_or (bodies_of self.now.bytes.now) number [] }
     {
-        self.bytes.as_chunks::<16>().0[number as usize]
+        self.bytes.as_chunks::<16>().0[usize::from(number)]
     }
 }
 
@@ -44,9 +46,9 @@ impl<'a> Home for Plain<'a> {
 
     // The trait's clauses stand here again, since a method with clauses of its own has no others.
     fn read(&mut self, number: u16, place: &mut [u8; 16]) -> Result<(), Fault>
-        ensures said { result ≡ answer (read_fault (plain self.old.bytes.now) number) }
-        ensures got { place.new ≡ place_after (plain self.old.bytes.now) number place.old }
-        ensures left { plain self.new.bytes.now ≡ plain self.old.bytes.now }
+        ensures said { result ≡ answer (read_fault (⟦<Self as Home>⟧.meaning self.old) number) }
+        ensures got { place.new ≡ place_after (⟦<Self as Home>⟧.meaning self.old) number place.old }
+        ensures left { ⟦<Self as Home>⟧.meaning self.new ≡ ⟦<Self as Home>⟧.meaning self.old }
         ensures bytes { self.new.bytes.now ≡ self.old.bytes.now }
         ensures lent { self.new.bytes.ghost_name ≡ self.old.bytes.ghost_name }
     {
@@ -56,13 +58,13 @@ impl<'a> Home for Plain<'a> {
     }
 
     fn write(&mut self, number: u16, body: [u8; 16]) -> Result<(), Fault>
-        ensures said { result ≡ answer (write_fault (plain self.old.bytes.now) number) }
-        ensures left { plain self.new.bytes.now ≡ after_write (plain self.old.bytes.now) number body }
+        ensures said { result ≡ answer (write_fault (⟦<Self as Home>⟧.meaning self.old) number) }
+        ensures left { ⟦<Self as Home>⟧.meaning self.new ≡ after_write (⟦<Self as Home>⟧.meaning self.old) number body }
         ensures bytes { self.new.bytes.now ≡ bytes_after self.old.bytes.now number body }
         ensures lent { self.new.bytes.ghost_name ≡ self.old.bytes.ghost_name }
     {
         self.inside(number)?;
-        let start = number as usize * 16;
+        let start = usize::from(number) * 16;
         self.bytes[start..start + 16].copy_from_slice(&body);
         Ok(())
     }

@@ -34,16 +34,16 @@ impl Home for WriteOnce {
 
     fn read(&mut self, number: u16, place: &mut [u8; 16]) -> Result<(), Fault> {
         self.inside(number)?;
-        *place = self.records[number as usize].unwrap_or([255; 16]);
+        *place = self.records[usize::from(number)].unwrap_or([255; 16]);
         Ok(())
     }
 
     fn write(&mut self, number: u16, body: [u8; 16]) -> Result<(), Fault> {
         self.inside(number)?;
-        if self.records[number as usize].is_some() {
+        if self.records[usize::from(number)].is_some() {
             return Err(Fault::new(Cause::AlreadyWritten, number));
         }
-        self.records[number as usize] = Some(body);
+        self.records[usize::from(number)] = Some(body);
         Ok(())
     }
 }

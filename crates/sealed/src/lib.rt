@@ -1,4 +1,5 @@
 // A layer that takes no write: an example for whoever writes a home.
+// It stands whole in one file, though its count and its read are the allowance's.
 #![tactic(auto)]
 
 ghost use Rattle.std.specs.Prelude.{◌≡◌};
