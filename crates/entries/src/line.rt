@@ -5,7 +5,7 @@ ghost use Rattle.entries.specs.Digits.{is_decimal, Decimal, number as number_in,
 ghost use Rattle.entries.specs.Entries.{without_return as trimmed, leading, following, all_hexadecimal, unless, record_of, body_of};
 
 use super::BadLine;
-use super::digit::byte_of;
+use hex::FromHex;
 use std::str::from_utf8;
 
 // The line, less the one carriage return that it may end in.
@@ -53,9 +53,7 @@ pub(crate) fn read_record(text: &[u8]) -> Result<(u16, &[u8]), BadLine>
 fn bytes_of(digits: &[u8; 32]) -> Result<[u8; 16], BadLine>
     ensures { result ≡ unless (all_hexadecimal digits.now) BadLine.NotHexadecimal (Ok (pair_values digits.now)) }
 {
-    let (pairs, _) = digits.as_chunks();
-    let pairs: &[[u8; 2]; 16] = pairs.as_array().unwrap();
-    pairs.try_map(byte_of)
+    <[u8; 16]>::from_hex(digits).map_err(|_| BadLine::NotHexadecimal)
 }
 
 // The body that follows the record number.
