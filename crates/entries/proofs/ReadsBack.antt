@@ -1,13 +1,13 @@
 -- The line that is shown of an entry gives that entry.
-use Rattle.std.proofs.Common.{◌≡◌, ℕ, ◌+◌, ◌*◌, ◌/◌, ◌%◌, ◌^◌, ◌<◌, ◌≤◌, List, [], ◌∷◌, ◌++◌, length, Ok, decimal, refl, ap, ◌∙◌, arith, rules}
+use Rattle.std.proofs.Common.{◌≡◌, ℕ, ◌+◌, ◌*◌, ◌/◌, ◌%◌, ◌^◌, ◌<◌, ◌≤◌, List, [], ◌∷◌, ◌++◌, length, Ok, decimal, refl, ap, ◌∙◌, arith}
 use Rattle.std.specs.List.{AllByRecursion}
 use Rattle.std.proofs.lemmas.Bool.Decides.{nat_tests}
 use Rattle.std.proofs.lemmas.Fmt.{decimal_nonempty, digits_decimal, digits_value-decimal}
-use Rattle.std.proofs.lemmas.Str.Parse.{IsNumeralModel, numerals_by_fold}
-use Rattle.entries.specs.Digits.{Decimal, number, number_after, Hexadecimal, hex_value, hex_digit, pair_values, spelled}
+use Rattle.entries.specs.Digits.{Decimal, number, Hexadecimal, hex_value, hex_digit, pair_values, spelled}
 use Rattle.entries.specs.Entries.{entry_in, entry_of}
 use Rattle.entries.specs.Spelling.{ShownReadsBack}
 use Rattle.entries.proofs.Exactly.{entry_in_is, return_none}
+use Rattle.entries.proofs.Numbers.{decimal_numerals}
 
 value_of_digit : (n : ℕ) → n < 16 → hex_value (hex_digit n) ≡ n
 value_of_digit n h = grind (arith, nat_tests)
@@ -44,14 +44,11 @@ spelled_reads_back ds bytes some decimal small sixteen each =
     ∙ entry_in_is ds (spelled bytes) some decimal small long hex
     ∙ (λ i. Ok (record { «record» = number ds; body = same i }))
 
-own : IsNumeralModel (AllByRecursion Decimal) number
-own = numerals_by_fold _ (search rules) number_after (search rules)
-
 pub shown_reads_back : ShownReadsBack
 shown_reads_back e small sixteen each =
     let n = e.«record» in
     let fits : e.«record» < 2 ^ 64 = omega arith in
-    let same = digits_value-decimal own n fits in
+    let same = digits_value-decimal decimal_numerals n fits in
     let below : number (decimal e.«record») ≤ 65535 = omega arith in
-    spelled_reads_back (decimal n) e.body (decimal_nonempty n fits) (digits_decimal own n fits) below sixteen each
+    spelled_reads_back (decimal n) e.body (decimal_nonempty n fits) (digits_decimal decimal_numerals n fits) below sixteen each
     ∙ (λ i. Ok (record { «record» = same i; body = e.body }))

@@ -1,11 +1,12 @@
 // The parts of a line: its record number, and the digits of its body.
-ghost use Rattle.std.specs.Prelude.{◌≡◌, if◌then◌else◌, Some, None, nat_le, MatchResult, IfOk};
+ghost use Rattle.std.specs.Prelude.{◌≡◌, ◌<◌, if◌then◌else◌, Some, None, length, nat_le, MatchResult, IfOk};
 ghost use Rattle.std.specs.List.{AllByRecursion, prefix_len};
 ghost use Rattle.entries.specs.Digits.{is_decimal, Decimal, number as number_in, pair_values};
 ghost use Rattle.entries.specs.Entries.{without_return as trimmed, leading, following, all_hexadecimal, unless, record_of, body_of};
 
 use super::BadLine;
-use super::digit::byte_of;
+use hex::FromHex;
+use std::str::from_utf8;
 
 // The line, less the one carriage return that it may end in.
 pub(crate) fn without_return(line: &[u8]) -> &[u8]
@@ -25,18 +26,13 @@ fn count_digits(text: &[u8]) -> usize
 }
 
 // The number that decimal digits write, where it is a record number.
-#[tactic(auto, using(crate::proofs::Numbers::next_le))]
+#[tactic(auto, using(crate::proofs::Numbers::decimal_utf8, crate::proofs::Numbers::parsed))]
 fn number_of(digits: &[u8]) -> Option<u16>
-    requires { AllByRecursion Decimal digits.now }
+    requires some { 0 < length digits.now }
+    requires decimal { AllByRecursion Decimal digits.now }
     ensures { result ≡ (if nat_le (number_in digits.now) 65535 then Some (number_in digits.now) else None) }
 {
-    let mut number = 0u16;
-    for digit in digits {
-        number = number
-            .checked_mul(10)?
-            .checked_add(u16::from(digit - b'0'))?;
-    }
-    Some(number)
+    from_utf8(digits).ok()?.parse().ok()
 }
 
 // The record number that the text begins with, and what follows its digits.
@@ -57,9 +53,7 @@ pub(crate) fn read_record(text: &[u8]) -> Result<(u16, &[u8]), BadLine>
 fn bytes_of(digits: &[u8; 32]) -> Result<[u8; 16], BadLine>
     ensures { result ≡ unless (all_hexadecimal digits.now) BadLine.NotHexadecimal (Ok (pair_values digits.now)) }
 {
-    let (pairs, _) = digits.as_chunks();
-    let pairs: &[[u8; 2]; 16] = pairs.as_array().unwrap();
-    pairs.try_map(byte_of)
+    <[u8; 16]>::from_hex(digits).map_err(|_| BadLine::NotHexadecimal)
 }
 
 // The body that follows the record number.
