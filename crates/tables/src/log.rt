@@ -13,11 +13,6 @@ use crate::stage::{is_draft, is_draft_of, settled_stage};
 use model::body::{Body, Mark};
 use model::slot::Slot;
 
-const CLEARED: Body = Body {
-    bytes: [0; 16],
-    mark: Mark::Cleared,
-};
-
 // Clauses name the slots and the oldest place apart, as the definitions of the model take them.
 #[derive(Clone, Copy)]
 pub struct Log {
@@ -144,7 +139,7 @@ impl Log {
     pub fn clear(&mut self, number: u8)
         ensures { EachSlot (on_some (edited_slot number (λ b. blank))) self.old self.new }
     {
-        self.edit(number, |_| CLEARED);
+        self.edit(number, |_| cleared());
     }
 
     // The drafts leave the log.
@@ -164,5 +159,15 @@ impl Log {
                 ..slot
             })
         });
+    }
+}
+
+// The body of a record that was cleared.
+fn cleared() -> Body
+    ensures { result ≡ blank }
+{
+    Body {
+        bytes: [0; 16],
+        mark: Mark::Cleared,
     }
 }
