@@ -1,5 +1,5 @@
 // Hexadecimal digits, as bytes of text.
-// By hand: `hex` spells capitals on the heap only, and `char::from_digit` gives small letters.
+// By hand: `hex` fills a slice with small letters alone, and turning them to capitals behind it is no plainer.
 ghost use Rattle.std.specs.Prelude.{◌≡◌, ◌<◌, [], ◌∷◌};
 ghost use Rattle.entries.specs.Digits.{hex_digit, spelled};
 

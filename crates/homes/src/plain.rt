@@ -64,6 +64,7 @@ impl<'a> Home for Plain<'a> {
         ensures lent { self.new.bytes.ghost_name ≡ self.old.bytes.ghost_name }
     {
         self.inside(number)?;
+        // by place: of what is written through `as_chunks_mut` a proof knows nothing
         let start = usize::from(number) * 16;
         self.bytes[start..start + 16].copy_from_slice(&body);
         Ok(())

@@ -40,6 +40,7 @@ impl<A: Home, B: Home> Home for SideBySide<A, B> {
 
     fn read(&mut self, number: u16, place: &mut [u8; 16]) -> Result<(), Fault> {
         self.inside(number)?;
+        // a match: of what a closure changes, the prover keeps nothing
         let answer = match self.number_in_second(number) {
             None => self.first.read(number, place),
             Some(there) => self.second.read(there, place),
@@ -49,6 +50,7 @@ impl<A: Home, B: Home> Home for SideBySide<A, B> {
 
     fn write(&mut self, number: u16, body: [u8; 16]) -> Result<(), Fault> {
         self.inside(number)?;
+        // a match: of what a closure changes, the prover keeps nothing
         let answer = match self.number_in_second(number) {
             None => self.first.write(number, body),
             Some(there) => self.second.write(there, body),

@@ -21,7 +21,7 @@ impl From<State> for u8 {
     }
 }
 
-// What a find answers: state and version apart, as the definitions under the laws have them.
+// What a find answers: state and version apart, as both are told to the outside.
 #[derive(Clone, Copy, PartialEq, Eq, Debug)]
 pub struct Found {
     pub state: State,

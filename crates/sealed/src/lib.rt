@@ -1,5 +1,5 @@
 // A layer that takes no write: an example for whoever writes a home.
-// It stands whole in one file, though its count and its read are the allowance's.
+// Its count and read are the allowance's: a layer for both to stand on would be no plainer for who learns from it.
 #![tactic(auto)]
 
 ghost use Rattle.std.specs.Prelude.{◌≡◌};

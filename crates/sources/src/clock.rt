@@ -39,6 +39,8 @@ impl Clock {
     }
 }
 
+// The trait's clauses stand here again, since a method with clauses of its own has no others. `stamp_of` stays in them:
+// the value of a model is any number, and the bound is owed of each.
 impl Source for Clock {
     ghost highest = { stamp_of };
 

@@ -30,6 +30,8 @@ impl Counter {
     }
 }
 
+// The trait's clauses stand here again, since a method with clauses of its own has no others. `stamp_of` stays in them:
+// the value of a model is any number, and the bound is owed of each.
 impl Source for Counter {
     ghost highest = { stamp_of };
 

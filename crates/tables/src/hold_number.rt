@@ -3,7 +3,7 @@ ghost use Rattle.std.specs.Prelude.{◌<◌};
 
 use model::refusal::Refusal;
 
-// A type of its own beside `User`, whose bound is another and whose refusal too.
+// A type of its own beside `User`: numbers below four are users, ages and places too, and no holds.
 #[derive(Clone, Copy)]
 pub struct HoldNumber {
     number: u8,

@@ -17,7 +17,8 @@ use order::candidate::{Candidate, Place};
 use order::ranked::foremost;
 use std::array::from_fn;
 
-// A table each for sections and logs, both by user: what a call does not touch is the same field in the proof.
+// A table each for sections and logs, both by user: one table would be no plainer, since each call would change a user's whole row.
+// Clauses name slots and oldest places apart, as `Logs` says.
 #[derive(Drop)]
 pub struct Inner {
     pub sections: Sections,

@@ -13,7 +13,7 @@ use crate::stage::{is_draft, is_draft_of, settled_stage};
 use model::body::{Body, Mark};
 use model::slot::Slot;
 
-// Clauses name the slots and the oldest place apart, as the definitions of the model take them.
+// Clauses name the slots and the oldest place apart: the slots are a function, and the value of a model may have none.
 #[derive(Clone, Copy)]
 pub struct Log {
     slots: [Option<Slot>; 8],

@@ -11,7 +11,8 @@ use crate::patch::Patch;
 use crate::user::User;
 use model::slot::Slot;
 
-// Clauses name a log's slots and the place of its oldest apart, and a slot by its user and an age or a place, as the definitions of the model take them.
+// Clauses name the slots and the places of the oldest apart: both are functions, and the value of a model may have none. A slot is
+// named by its user and an age or a place, as the definitions under the laws name it.
 #[derive(Drop)]
 pub struct Logs {
     all: [Log; 8],
@@ -145,7 +146,7 @@ impl Logs {
         }
     }
 
-    // The user's log, to read. What changes it indexes the table: of an array's element that is lent as `&mut` no later value is known.
+    // The user's log, to read. What changes it indexes the table: of a log that a function lends out as `&mut` no later value is known.
     fn of(&self, user: User) -> &Log
         ensures { result.now ≡ slice_index_or self.now.all user.number no_log }
     {
