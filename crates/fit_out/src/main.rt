@@ -21,9 +21,15 @@ const WRITES: u32 = 6;
 
 // Loads each line of the input, and prints what became of it.
 fn load_lines(rt: &HostRuntime, session: &mut Session<Memory<'_>>) -> io::Result<()> {
-    let input = BufReader::new(rt.alloc(), rt.stdin())?;
-    for (number, line) in (1u64..).zip(input.split(rt.alloc(), b'\n')) {
-        let reply = session.line(&line?);
+    let mut input = BufReader::new(rt.alloc(), rt.stdin())?;
+    // One buffer for all lines: `split` takes memory for each anew, up to twice as much in all where lines are long.
+    let mut line = Vec::new(rt.alloc());
+    for number in 1..u64::MAX {
+        line.clear();
+        if input.read_until(b'\n', &mut line)? == 0 {
+            break;
+        }
+        let reply = session.line(line.strip_suffix(b"\n").unwrap_or(&line));
         println!(rt; "line {number}: {reply}")?;
     }
     Ok(())
