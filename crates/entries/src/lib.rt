@@ -80,7 +80,12 @@ pub fn spell_body(body: &[u8; 16]) -> [u8; 32]
     ensures { result ≡ spelled body.now }
 {
     let mut text = [0; 32];
-    text.copy_from_slice(body.map(digits_of).as_flattened());
+    // By place: an array's `map`, flattened, takes some six times as long.
+    for (k, byte) in body.iter().enumerate() {
+        let [high, low] = digits_of(*byte);
+        text[2 * k] = high;
+        text[2 * k + 1] = low;
+    }
     text
 }
 
