@@ -27,14 +27,14 @@ module _ {A : Type 0} {before : A → A → Type 0} {test : A → A → Bool} (i
   pick_best (None ∷ row) = pick_best row
   pick_best (Some x ∷ row) = better_best x (members row) (pick test row) (pick_best row)
 
-  pick_foremost : (row : List (Option A)) (m : A) → pick test row ≡ Some m → Foremost before row m
+  pub pick_foremost : (row : List (Option A)) (m : A) → pick test row ≡ Some m → Foremost before row m
   pick_foremost row m e = foremost_of before row m (subst (Best before (Contains (members row))) e (pick_best row))
 
-  pick_none : (row : List (Option A)) → pick test row ≡ None → (x : A) → In row x → ⊥
+  pub pick_none : (row : List (Option A)) → pick test row ≡ None → (x : A) → In row x → ⊥
   pick_none row e = none_of before row (subst (Best before (Contains (members row))) e (pick_best row))
 
   -- what is picked of a row is its pick
-  picked : (row : List (Option A)) (r : Option A) → Picked before row r → pick test row ≡ r
+  pub picked : (row : List (Option A)) (r : Option A) → Picked before row r → pick test row ≡ r
   picked row r p = go r (pick test row) refl p
     where
       go : (r q : Option A) → pick test row ≡ q → Picked before row r → q ≡ r
@@ -45,7 +45,7 @@ module _ {A : Type 0} {before : A → A → Type 0} {test : A → A → Bool} (i
 
 -- open sections --
 
-open_sections : IsTest OpenSectionBefore open_section_test
+pub open_sections : IsTest OpenSectionBefore open_section_test
 open_sections = record {
   decides = λ x y. search rules;
   order = record { irreflexive = λ x. search rules; transitive = λ x y z. search rules; total = λ x y. search rules };

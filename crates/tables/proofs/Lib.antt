@@ -1,5 +1,5 @@
 mod Leasts
-mod Mapped
+pub mod Rows
 mod Arrays
 mod FirstHour
 mod FromFn

@@ -1,10 +1,11 @@
 // A user's log: eight slots, used as a ring; a fixed table, since a store takes no heap.
-ghost use Rattle.std.specs.Prelude.{◌≡◌, ℕ, ◌&&◌, Bool, None};
+ghost use Rattle.std.specs.Prelude.{◌≡◌, ℕ, ◌&&◌, Bool, Option, None};
 ghost use Rattle.model.specs.Tools.{put, on_some, least};
 ghost use Rattle.model.specs.Worlds.{blank};
 ghost use Rattle.model.specs.Versions.{place_of};
 ghost use Rattle.model.specs.Drafts.{draft_age, has_draft, has_drafts, free_age, settled};
 ghost use Rattle.model.specs.declared.body.Body.{Body};
+ghost use Rattle.model.specs.declared.slot.Slot.{Slot};
 ghost use Rattle.tables.specs.Closures.{Computes};
 ghost use Rattle.tables.specs.View.{places_of, EachSlot, edited_slot, without_draft, written_within};
 
@@ -114,12 +115,22 @@ impl Log {
         self.first = self.place(1);
     }
 
+    // Makes of each slot what `change` makes of it. In place: an array's `map` moves the whole log, and takes three to four times as long.
+    fn change<F: Fn(Option<Slot>) -> Option<Slot>>(&mut self, change: F)
+        requires { F.IsAlwaysCallable change }
+        ensures { (f : Option Slot → Option Slot) → Computes (F.post change) f → f None ≡ None → EachSlot f self.old self.new }
+    {
+        for slot in &mut self.slots {
+            *slot = change(*slot);
+        }
+    }
+
     // Changes the body of the draft of a record.
     fn edit<F: Fn(Body) -> Body>(&mut self, number: u8, change: F)
         requires { F.IsAlwaysCallable change }
         ensures { (f : Body → Body) → Computes (F.post change) f → EachSlot (on_some (edited_slot number f)) self.old self.new }
     {
-        self.slots = self.slots.map(|slot| match slot {
+        self.change(|slot| match slot {
             Some(draft) if is_draft_of(number, draft) => Some(Slot {
                 body: change(draft.body),
                 ..draft
@@ -146,14 +157,18 @@ impl Log {
     pub fn remove_drafts(&mut self)
         ensures { EachSlot without_draft self.old self.new }
     {
-        self.slots = self.slots.map(|slot| slot.filter(|slot| !is_draft(*slot)));
+        for slot in &mut self.slots {
+            if slot.is_some_and(is_draft) {
+                *slot = None;
+            }
+        }
     }
 
     // What a commit at a stamp makes of this log: of the drafts of `committing`, which is this log if `own`.
     pub fn settle(&mut self, own: bool, committing: &Log, stamp: u64)
         ensures { EachSlot (on_some (settled (places_of committing.now) committing.now.first own stamp)) self.old self.new }
     {
-        self.slots = self.slots.map(|slot| {
+        self.change(|slot| {
             slot.map(|slot| Slot {
                 stage: settled_stage(slot.stage, own, committing.has_draft(slot.number), stamp),
                 ..slot

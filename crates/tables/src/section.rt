@@ -29,11 +29,10 @@ impl Section {
         self.holds[usize::from(hold)]
     }
 
-    // The section with one hold on something else.
-    pub fn with_hold(mut self, hold: HoldNumber, on: Hold) -> Section
-        ensures { section_of result ≡ with_hold hold.number on (section_of self) }
+    // One hold is on something else.
+    pub fn set_hold(&mut self, hold: HoldNumber, on: Hold)
+        ensures { section_of self.new ≡ with_hold hold.number on (section_of self.old) }
     {
         self.holds[usize::from(hold)] = on;
-        self
     }
 }

@@ -2,7 +2,7 @@
 ghost use Rattle.std.specs.Prelude.{◌≡◌, Some, None};
 ghost use Rattle.model.specs.Tools.{put, on_some};
 ghost use Rattle.model.specs.Steps.{fresh};
-ghost use Rattle.model.specs.Versions.{opened_as, first_opened};
+ghost use Rattle.model.specs.Versions.{first_opened};
 ghost use Rattle.tables.specs.View.{sections_of, holds_at, with_hold, Opened, Closed};
 
 use crate::hold_number::HoldNumber;
@@ -12,7 +12,6 @@ use model::refusal::Refusal;
 use model::slot::Hold;
 use order::open_section::OpenSection;
 use order::ranked::foremost;
-use std::array::from_fn;
 
 #[derive(Drop)]
 pub struct Sections {
@@ -50,7 +49,8 @@ impl Sections {
     pub fn hold(&self, user: User, hold: HoldNumber) -> Hold
         ensures { result ≡ holds_at self.now user.number hold.number }
     {
-        self.all[usize::from(user)].map_or(Hold::Unset, |section| section.hold(hold))
+        let section = self.all[usize::from(user)].as_ref();
+        section.map_or(Hold::Unset, |section| section.hold(hold))
     }
 
     pub fn open(&mut self, user: User, stamp: u64)
@@ -69,26 +69,23 @@ impl Sections {
     pub fn set_hold(&mut self, user: User, hold: HoldNumber, on: Hold)
         ensures { sections_of self.new ≡ put (sections_of self.old) user.number (on_some (with_hold hold.number on) (sections_of self.old user.number)) }
     {
-        let own = usize::from(user);
-        self.all[own] = self.all[own].map(|section| section.with_hold(hold, on));
+        if let Some(section) = &mut self.all[usize::from(user)] {
+            section.set_hold(hold, on);
+        }
     }
 
     // The open section with the lowest opening stamp.
     pub fn first_opened(&self) -> Option<OpenSection>
         ensures { result ≡ first_opened (sections_of self.now) }
     {
-        let row: [_; 8] = from_fn(|user| self.opened(user as u8));
+        let mut row = [None; 8];
+        // By place: `from_fn` takes some three times as long.
+        for (user, section) in self.all.iter().enumerate() {
+            row[user] = section.as_ref().map(|section| OpenSection {
+                stamp: section.opening,
+                user: user as u8,
+            });
+        }
         foremost(&row)
-    }
-
-    // The user's section as one of a row of open ones; none behind the last user.
-    fn opened(&self, user: u8) -> Option<OpenSection>
-        ensures { result ≡ opened_as user (sections_of self.now user) }
-    {
-        let section = (*self.all.get(usize::from(user))?)?;
-        Some(OpenSection {
-            stamp: section.opening,
-            user,
-        })
     }
 }
