@@ -3,6 +3,7 @@ use Rattle.std.proofs.Common.{◌≡◌, ℕ, ◌<◌, List, [], length, get_or,
 use Rattle.std.specs.List.{refill}
 use Rattle.std.specs.Option.{unwrap_or}
 use Rattle.std.proofs.lemmas.List.{map-set, length-set, get_or-map, take_all, take-append-le}
+pub use Rattle.std.proofs.lemmas.List.{set-set}
 use Rattle.std.proofs.lemmas.Bool.{lt-ltb}
 use Rattle.interfaces.specs.Homes.{after_write}
 use Rattle.homes.specs.WriteOnces.{once_of, held, length_held, body_of}
@@ -35,4 +36,5 @@ taken records k bytes l sixteen h free =
     let bodies = held_set records k bytes l sixteen in
     simp (bodies, map-set) (simp (inside, none))
 
-pub ruleset one_write = (length_held, get_held, taken)
+-- the last, that of two writes to one place the second stands, lets an edit of `write` that writes twice prove where it is right
+pub ruleset one_write = (length_held, get_held, taken, set-set)

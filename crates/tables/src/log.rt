@@ -115,7 +115,7 @@ impl Log {
         self.first = self.place(1);
     }
 
-    // Makes of each slot what `change` makes of it. In place: an array's `map` moves the whole log, and takes three to four times as long.
+    // Makes of each slot what `change` makes of it. In place: an array's `map` moves the whole log, and takes three to five times as long.
     fn change<F: Fn(Option<Slot>) -> Option<Slot>>(&mut self, change: F)
         requires { F.IsAlwaysCallable change }
         ensures { (f : Option Slot → Option Slot) → Computes (F.post change) f → f None ≡ None → EachSlot f self.old self.new }
