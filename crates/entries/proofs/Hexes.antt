@@ -1,7 +1,7 @@
 -- Hexadecimal digits, and the bytes that pairs of them write.
 use Rattle.std.proofs.Common.{◌≡◌, ℕ, zero, suc, ◌+◌, ◌*◌, Bool, true, false, ◌&&◌, List, [], ◌∷◌, length, Ok, Err, Result, sym, subst, refl, arith}
-use Rattle.std.specs.Prelude.{MatchResult}
-use Rattle.std.specs.List.{AllByRecursion}
+use Rattle.std.specs.Prelude.{MatchResult, nat_eq}
+use Rattle.std.specs.List.{AllByRecursion, prefix_len}
 use Rattle.std.proofs.lemmas.Bool.Decides.{nat_tests}
 use Rattle.hex.specs.Hex.{◌>>=◌, value_at, decode_pairs, decode_sized}
 use Rattle.hex.specs.declared.error.FromHexError.{FromHexError}
@@ -57,3 +57,8 @@ decoded ds r long is = passed_in ds r (subst (Passed (all_hexadecimal ds) (pair_
 -- a body behind its blank, of the right length
 pub body_of_digits : (ds : List ℕ) → length ds ≡ 32 → body_of (32 ∷ ds) ≡ bytes_in ds
 body_of_digits ds long = grind (arith, nat_tests)
+
+-- a count of hexadecimal digits from the front on reaches the end exactly where all are; the edit of `read_body` for a letter g, which counts them, is judged by it
+pub counted_each : (p : ℕ → Bool) (cs : List ℕ) → ((c : ℕ) → p c ≡ is_hexadecimal c) → nat_eq (prefix_len p cs) (length cs) ≡ all_hexadecimal cs
+counted_each p [] same = refl
+counted_each p (c ∷ cs) same = let now = same c in let more = counted_each p cs same in grind (arith, now, more)

@@ -60,7 +60,7 @@ fn bytes_of(digits: &[u8; 32]) -> Result<[u8; 16], BadLine>
 }
 
 // The body that follows the record number.
-#[tactic(auto, using(crate::proofs::Hexes::body_of_digits))]
+#[tactic(auto, using(crate::proofs::Hexes::body_of_digits, crate::proofs::Hexes::counted_each))]
 pub(crate) fn read_body(rest: &[u8]) -> Result<[u8; 16], BadLine>
     ensures { result ≡ body_of rest.now }
 {
